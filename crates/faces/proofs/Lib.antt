@@ -1,0 +1,4 @@
+pub mod Walks
+pub mod Rising
+pub mod Halving
+pub mod Boxed

@@ -1,0 +1,15 @@
+// Faces: what a font answers about codes and glyphs, and the face that is two lists of records.
+mod bounds;
+mod face;
+mod keyed;
+mod record_face;
+mod records;
+mod refusal;
+
+pub use bounds::Bounds;
+pub use face::Face;
+pub use record_face::RecordFace;
+pub use record_face::answers::RecordFaceFace;
+pub use records::CodeRecord;
+pub use records::GlyphRecord;
+pub use refusal::Refusal;
