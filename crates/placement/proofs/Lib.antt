@@ -1,0 +1,5 @@
+pub mod Computed
+pub mod Heights
+pub mod Assembled
+pub mod Keeping
+pub mod OneKeeps

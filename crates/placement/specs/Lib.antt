@@ -1,0 +1,5 @@
+pub mod Classes
+pub mod Room
+pub mod Placing
+pub mod Kept
+pub mod OneMark
