@@ -3,3 +3,4 @@ pub mod Room
 pub mod Placing
 pub mod Kept
 pub mod OneMark
+pub mod Worked
