@@ -1,4 +1,5 @@
 pub mod Walks
 pub mod Rising
 pub mod Halving
+pub mod Ordered
 pub mod Boxed

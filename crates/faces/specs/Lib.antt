@@ -6,3 +6,4 @@ pub mod Keys
 pub mod Records
 pub mod Recorded
 pub mod RecordKeeps
+pub mod KeyLaws

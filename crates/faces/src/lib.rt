@@ -2,12 +2,14 @@
 mod bounds;
 mod face;
 mod keyed;
+mod laws;
 mod record_face;
 mod records;
 mod refusal;
 
 pub use bounds::Bounds;
 pub use face::Face;
+pub use laws::records_stand;
 pub use record_face::RecordFace;
 pub use record_face::answers::RecordFaceFace;
 pub use records::CodeRecord;
