@@ -6,7 +6,7 @@ ghost use mathlib.Core.Path.{_≡_};
 ghost use Prim.Native.Nat.{ℕ, _<_};
 ghost use Rattle.faces.specs.Keys.{every, first, keyAt, rising};
 
-pub trait Keyed {
+pub(crate) trait Keyed {
     ghost keyOf: { Self → ℕ };
 
     ghost soundness: { Self → Bool };
@@ -20,7 +20,7 @@ pub trait Keyed {
         ensures { λ r. ⌜ r ≡ soundness (now (self .entry)) ⌝ };
 }
 
-pub fn is_rising<T: Keyed>(rows: &[T]) -> bool
+pub(crate) fn is_rising<T: Keyed>(rows: &[T]) -> bool
     ensures { λ r. ⌜ r ≡ rising keyOf (now (rows .entry)) ⌝ }
 {
     let mut low: u64 = 0;
@@ -34,7 +34,7 @@ pub fn is_rising<T: Keyed>(rows: &[T]) -> bool
     true
 }
 
-pub fn all_sound<T: Keyed>(rows: &[T]) -> bool
+pub(crate) fn all_sound<T: Keyed>(rows: &[T]) -> bool
     ensures { λ r. ⌜ r ≡ every soundness (now (rows .entry)) ⌝ }
 {
     for row in rows {
@@ -68,7 +68,7 @@ fn place_of<T: Keyed>(rows: &[T], wanted: u32) -> usize
 }
 
 // The record of a key.
-pub fn find<T: Keyed + Copy>(rows: &[T], wanted: u32) -> Option<T>
+pub(crate) fn find<T: Keyed + Copy>(rows: &[T], wanted: u32) -> Option<T>
     requires { ⌜ rising keyOf (now rows) ≡ true ⌝ }
     ensures { λ r. ⌜ r ≡ first keyOf wanted (now (rows .entry)) ⌝ }
 {

@@ -20,7 +20,7 @@ pub enum Align {
     Centred,
 }
 
-pub fn way_of(class: u8) -> Option<Way>
+pub(crate) fn way_of(class: u8) -> Option<Way>
     ensures { λ r. ⌜ r ≡ way class ⌝ }
 {
     match class {
@@ -30,13 +30,13 @@ pub fn way_of(class: u8) -> Option<Way>
     }
 }
 
-pub fn is_attached(class: u8) -> bool
+pub(crate) fn is_attached(class: u8) -> bool
     ensures { λ r. ⌜ r ≡ isAttached class ⌝ }
 {
     matches!(class, 200 | 202 | 214 | 216)
 }
 
-pub fn align_of(class: u8, direction: Direction) -> Align
+pub(crate) fn align_of(class: u8, direction: Direction) -> Align
     ensures { λ r. ⌜ r ≡ align class direction ⌝ }
 {
     match class {

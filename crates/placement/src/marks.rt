@@ -92,7 +92,7 @@ fn above_offset(run: Extents, mark: Bounds, gap: u16) -> i32
 }
 
 // Where a mark of a class goes by the box of its run, and that box with the mark in it.
-pub fn position_mark(
+pub(crate) fn position_mark(
     run: Extents,
     mark: Bounds,
     gap: u16,
