@@ -7,14 +7,14 @@ use Rattle.std.specs.declared.result.Result.{Result}
 use Rattle.std.specs.declared.result.Result.the-variants.{Ok, Err}
 use Rattle.faces.specs.Meaning.{FaceMeaning}
 use Rattle.placement.specs.declared.Direction.the-variants.{LeftToRight}
-use Rattle.placement.specs.declared.Placed.{Placed}
+use Rattle.placement.specs.declared.PlacedMark.{PlacedMark}
 use Rattle.placement.specs.OneMark.{onePlaced}
 use Rattle.panel.specs.declared.gate.GateSign.{GateSign}
 
 abbrev pub sign : ℕ → ℕ → ℤ → ℤ → GateSign
 sign l b x y = record { letter = l; bar = b; x = x; y = y }
 
-abbrev pub placedSign : ℕ → ℕ → Option Placed → Option GateSign
+abbrev pub placedSign : ℕ → ℕ → Option PlacedMark → Option GateSign
 placedSign l b (Some p) = Some (sign l b (p .x) (p .y))
 placedSign l b None = None
 

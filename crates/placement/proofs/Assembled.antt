@@ -9,10 +9,10 @@ use Rattle.placement.specs.declared.classes.Way.{Way}
 use Rattle.placement.specs.declared.classes.Way.the-variants.{Above, Below}
 use Rattle.placement.specs.declared.classes.Align.{Align}
 use Rattle.placement.specs.declared.extents.Extents.{Extents}
-use Rattle.placement.specs.declared.extents.Placed.{Placed}
+use Rattle.placement.specs.declared.extents.PlacedMark.{PlacedMark}
 use Rattle.placement.specs.Placing.{placedBy, xOf, yOf}
 
-abbrev pub assembled : ℤ → ℤ → ℤ → ℤ → ℤ → ℤ → Placed
+abbrev pub assembled : ℤ → ℤ → ℤ → ℤ → ℤ → ℤ → PlacedMark
 assembled x y l w b t = record { x = x; y = y; run = record { left = l; width = w; bottom = b; top = t } }
 
 module _ (run : Extents) (m : Edges) (g : ℕ) (w : Option Way) (a : Align) {x y left width bottom top : ℤ} (ex : x ≡ xOf run m a) (el : left ≡ run .left) (ew : width ≡ run .width) where

@@ -14,7 +14,7 @@ use Rattle.placement.specs.declared.classes.Align.{Align}
 use Rattle.placement.specs.declared.classes.Align.the-variants.{Centred}
 use Rattle.placement.specs.declared.direction.Direction.{Direction}
 use Rattle.placement.specs.declared.extents.Extents.{Extents}
-use Rattle.placement.specs.declared.extents.Placed.{Placed}
+use Rattle.placement.specs.declared.extents.PlacedMark.{PlacedMark}
 use Rattle.placement.specs.Classes.{way, align}
 use Rattle.placement.specs.Placing.{gapBefore, placedBy}
 use Rattle.placement.specs.Kept.{lies, distance, lastEdge, farEdge, fromLeft, fromRight, Even, PlacedMarksKeep}

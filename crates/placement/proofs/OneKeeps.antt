@@ -10,7 +10,7 @@ use Rattle.std.proofs.shelf.Tests.{cond-false}
 use Rattle.faces.specs.Meaning.{FaceMeaning, Edges}
 use Rattle.placement.specs.declared.direction.Direction.{Direction}
 use Rattle.placement.specs.declared.extents.Extents.{Extents}
-use Rattle.placement.specs.declared.extents.Placed.{Placed}
+use Rattle.placement.specs.declared.extents.PlacedMark.{PlacedMark}
 use Rattle.placement.specs.Placing.{placed}
 use Rattle.placement.specs.Kept.{Kept}
 use Rattle.placement.specs.OneMark.{gapOf, baseOf, placedOn, onePlaced, OneKept}
@@ -20,13 +20,13 @@ module _ (f : FaceMeaning) (base mark c : ℕ) (d : Direction) where
   measured : (run : Extents) (m : Edges) → baseOf f base ≡ Some run → f .bounds mark ≡ Some m → onePlaced f base mark c d ≡ cond (eqb c 0) None (Some (placed run m (gapOf f) c d))
   measured run m eb em = ap (λ o. cond (eqb c 0) None (placedOn (gapOf f) c d o (f .bounds mark))) eb ∙ ap (λ o. cond (eqb c 0) None (placedOn (gapOf f) c d (Some run) o)) em
 
-  pub one-placed : (run : Extents) (m : Edges) (p : Placed) → baseOf f base ≡ Some run → f .bounds mark ≡ Some m → eqb c 0 ≡ false → p ≡ placed run m (gapOf f) c d → Some p ≡ onePlaced f base mark c d
-  one-placed run m p eb em ec ep = ap (λ (q : Placed). Some q) ep ∙ sym (measured run m eb em ∙ cond-false _ _ _ ec)
+  pub one-placed : (run : Extents) (m : Edges) (p : PlacedMark) → baseOf f base ≡ Some run → f .bounds mark ≡ Some m → eqb c 0 ≡ false → p ≡ placed run m (gapOf f) c d → Some p ≡ onePlaced f base mark c d
+  one-placed run m p eb em ec ep = ap (λ (q : PlacedMark). Some q) ep ∙ sym (measured run m eb em ∙ cond-false _ _ _ ec)
 
-  only : (b : Bool) (p q : Placed) → cond b None (Some q) ≡ Some p → q ≡ p
+  only : (b : Bool) (p q : PlacedMark) → cond b None (Some q) ≡ Some p → q ≡ p
   only true p q e = let z : _≡_ {A = ℕ} 0 1 = cc in absurd (omega arith)
   only false p q e = cc
 
-  pub one-kept : (r : Option Placed) → r ≡ onePlaced f base mark c d → OneKept f base mark c d r
+  pub one-kept : (r : Option PlacedMark) → r ≡ onePlaced f base mark c d → OneKept f base mark c d r
   one-kept r e run m p eb em er =
       subst (Kept run m (gapOf f) c d) (only (eqb c 0) p _ (sym (measured run m eb em) ∙ sym e ∙ er)) (placed-marks-keep run m (gapOf f) c d)

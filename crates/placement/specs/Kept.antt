@@ -11,12 +11,12 @@ use Rattle.placement.specs.declared.classes.Way.the-variants.{Above, Below}
 use Rattle.placement.specs.declared.classes.Align.the-variants.{Centred}
 use Rattle.placement.specs.declared.direction.Direction.{Direction}
 use Rattle.placement.specs.declared.extents.Extents.{Extents}
-use Rattle.placement.specs.declared.extents.Placed.{Placed}
+use Rattle.placement.specs.declared.extents.PlacedMark.{PlacedMark}
 use Rattle.placement.specs.Classes.{way, align}
 use Rattle.placement.specs.Placing.{gapBefore, placed}
 
 -- A mark's box, moved to where the mark's origin went.
-abbrev pub lies : Placed → Edges → Edges
+abbrev pub lies : PlacedMark → Edges → Edges
 lies p m = edges (p .x +ℤ m .left) (p .y +ℤ m .bottom) (p .x +ℤ m .right) (p .y +ℤ m .top)
 
 -- Between the facing edges: above, from the run's top to the mark's bottom; below, from the mark's top to the run's bottom.
@@ -45,7 +45,7 @@ abbrev pub Even : ℤ → ℤ → Type 0
 Even a b = (a ≤ℤ (b +ℤ pos 1)) × (b ≤ℤ (a +ℤ pos 1))
 
 -- A mark m of class c, placed as p by the box of its run.
-pub record Kept (run : Extents) (m : Edges) (gap c : ℕ) (d : Direction) (p : Placed) : Type 0 where
+pub record Kept (run : Extents) (m : Edges) (gap c : ℕ) (d : Direction) (p : PlacedMark) : Type 0 where
   -- it clears the run's box by the gap, or by nothing if it is attached
   pub clear : (w : Way) → way c ≡ Some w → pos (gapBefore gap c) ≤ℤ distance w run (lies p m)
   -- the next mark goes on from its far edge

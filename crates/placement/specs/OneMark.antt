@@ -9,7 +9,7 @@ use Rattle.std.specs.declared.option.Option.the-variants.{Some, None}
 use Rattle.faces.specs.Meaning.{FaceMeaning, Edges}
 use Rattle.placement.specs.declared.direction.Direction.{Direction}
 use Rattle.placement.specs.declared.extents.Extents.{Extents}
-use Rattle.placement.specs.declared.extents.Placed.{Placed}
+use Rattle.placement.specs.declared.extents.PlacedMark.{PlacedMark}
 use Rattle.placement.specs.Placing.{placed}
 use Rattle.placement.specs.Kept.{Kept}
 
@@ -25,15 +25,15 @@ baseBox across None = None
 abbrev pub baseOf : FaceMeaning → ℕ → Option Extents
 baseOf f base = baseBox (f .across base) (f .bounds base)
 
-abbrev pub placedOn : ℕ → ℕ → Direction → Option Extents → Option Edges → Option Placed
+abbrev pub placedOn : ℕ → ℕ → Direction → Option Extents → Option Edges → Option PlacedMark
 placedOn gap c d (Some run) (Some m) = Some (placed run m gap c d)
 placedOn gap c d (Some run) None = None
 placedOn gap c d None m = None
 
 -- A mark of class 0 is not placed by its class, and nothing is placed where either has no box.
-abbrev pub onePlaced : FaceMeaning → ℕ → ℕ → ℕ → Direction → Option Placed
+abbrev pub onePlaced : FaceMeaning → ℕ → ℕ → ℕ → Direction → Option PlacedMark
 onePlaced f base mark c d = cond (eqb c 0) None (placedOn (gapOf f) c d (baseOf f base) (f .bounds mark))
 
 -- What the place of one mark keeps, whatever the face.
-abbrev pub OneKept : FaceMeaning → ℕ → ℕ → ℕ → Direction → Option Placed → Type 0
-OneKept f base mark c d r = (run : Extents) (m : Edges) (p : Placed) → baseOf f base ≡ Some run → f .bounds mark ≡ Some m → r ≡ Some p → Kept run m (gapOf f) c d p
+abbrev pub OneKept : FaceMeaning → ℕ → ℕ → ℕ → Direction → Option PlacedMark → Type 0
+OneKept f base mark c d r = (run : Extents) (m : Edges) (p : PlacedMark) → baseOf f base ≡ Some run → f .bounds mark ≡ Some m → r ≡ Some p → Kept run m (gapOf f) c d p

@@ -12,7 +12,7 @@ use Rattle.placement.specs.declared.classes.Align.{Align}
 use Rattle.placement.specs.declared.classes.Align.the-variants.{AtLeft, AtRight, OnLeft, OnRight, Centred}
 use Rattle.placement.specs.declared.direction.Direction.{Direction}
 use Rattle.placement.specs.declared.extents.Extents.{Extents}
-use Rattle.placement.specs.declared.extents.Placed.{Placed}
+use Rattle.placement.specs.declared.extents.PlacedMark.{PlacedMark}
 use Rattle.placement.specs.Classes.{way, align, isAttached}
 
 abbrev pub half : ℤ → ℤ
@@ -57,9 +57,9 @@ reached run m y (Some Below) = record { left = run .left; width = run .width; bo
 reached run m y (Some Above) = record { left = run .left; width = run .width; bottom = run .bottom; top = y +ℤ m .top }
 reached run m y None = run
 
-abbrev pub placedBy : Extents → Edges → ℕ → Option Way → Align → Placed
+abbrev pub placedBy : Extents → Edges → ℕ → Option Way → Align → PlacedMark
 placedBy run m g w a = record { x = xOf run m a; y = yOf run m g w; run = reached run m (yOf run m g w) w }
 
 -- A mark of a class, placed by the box of its run.
-abbrev pub placed : Extents → Edges → ℕ → ℕ → Direction → Placed
+abbrev pub placed : Extents → Edges → ℕ → ℕ → Direction → PlacedMark
 placed run m gap c d = placedBy run m (gapBefore gap c) (way c) (align c d)

@@ -8,7 +8,7 @@ use Rattle.std.specs.declared.option.Option.the-variants.{Some, None}
 use Rattle.faces.specs.Meaning.{FaceMeaning, Edges, edges}
 use Rattle.placement.specs.declared.direction.Direction.the-variants.{LeftToRight, RightToLeft, TopToBottom, BottomToTop}
 use Rattle.placement.specs.declared.extents.Extents.{Extents}
-use Rattle.placement.specs.declared.extents.Placed.{Placed}
+use Rattle.placement.specs.declared.extents.PlacedMark.{PlacedMark}
 use Rattle.placement.specs.Placing.{half, placed}
 use Rattle.placement.specs.OneMark.{onePlaced}
 
@@ -31,7 +31,7 @@ face = record {
 }
 
 -- a mark at x, y, after which the run reaches from bottom to top
-abbrev pub at : ℤ → ℤ → ℤ → ℤ → Option Placed
+abbrev pub at : ℤ → ℤ → ℤ → ℤ → Option PlacedMark
 at x y bottom top = Some (record { x = x; y = y; run = record { left = pos 0; width = pos 600; bottom = bottom; top = top } })
 
 abbrev pub lockedOnce : Extents

@@ -11,7 +11,7 @@ pub struct Extents {
 // Where the origin of a mark goes, and the box of its run with the mark in it.
 #[repr(C)]
 #[derive(Clone, Copy, PartialEq, Eq, Debug)]
-pub struct Placed {
+pub struct PlacedMark {
     pub x: i32,
     pub y: i32,
     pub run: Extents,

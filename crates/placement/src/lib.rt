@@ -8,6 +8,6 @@ mod one_mark;
 
 pub use direction::Direction;
 pub use extents::Extents;
-pub use extents::Placed;
+pub use extents::PlacedMark;
 pub use laws::placing_stands;
 pub use one_mark::position_one_mark;

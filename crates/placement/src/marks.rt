@@ -13,7 +13,7 @@ use crate::classes::is_attached;
 use crate::classes::way_of;
 use crate::direction::Direction;
 use crate::extents::Extents;
-use crate::extents::Placed;
+use crate::extents::PlacedMark;
 use faces::Bounds;
 
 fn width(mark: Bounds) -> i32
@@ -98,7 +98,7 @@ pub(crate) fn position_mark(
     gap: u16,
     class: u8,
     direction: Direction,
-) -> Placed
+) -> PlacedMark
     requires room { ⌜ Room run ⌝ }
     requires small { ⌜ gap ≤ 1024 ⌝ }
     ensures { λ r. ⌜ r ≡ placed run (edgesOf mark) gap class direction ⌝ }
@@ -109,7 +109,7 @@ pub(crate) fn position_mark(
         Some(Way::Below) => {
             let y = below_offset(run, mark, gap);
             let bottom = y + mark.bottom() as i32;
-            Placed {
+            PlacedMark {
                 x,
                 y,
                 run: Extents { bottom, ..run },
@@ -118,12 +118,12 @@ pub(crate) fn position_mark(
         Some(Way::Above) => {
             let y = above_offset(run, mark, gap);
             let top = y + mark.top() as i32;
-            Placed {
+            PlacedMark {
                 x,
                 y,
                 run: Extents { top, ..run },
             }
         }
-        None => Placed { x, y: 0, run },
+        None => PlacedMark { x, y: 0, run },
     }
 }

@@ -4,7 +4,7 @@ ghost use Rattle.placement.specs.OneMark.{OneKept, baseOf, onePlaced};
 ghost use Rattle.placement.specs.Room.{AllRoom};
 use crate::direction::Direction;
 use crate::extents::Extents;
-use crate::extents::Placed;
+use crate::extents::PlacedMark;
 use crate::marks::position_mark;
 use faces::Face;
 
@@ -32,7 +32,7 @@ pub fn position_one_mark<F: Face>(
     mark: u16,
     class: u8,
     direction: Direction,
-) -> Option<Placed>
+) -> Option<PlacedMark>
     ensures value { λ r. ⌜ r ≡ onePlaced (meaning (now (face .entry))) base mark class direction ⌝ }
     ensures kept { λ r. ⌜ OneKept (meaning (now (face .entry))) base mark class direction r ⌝ }
 {

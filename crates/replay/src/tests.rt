@@ -11,7 +11,7 @@ use placement::position_one_mark;
 use std::test::*;
 
 // The number of the refusal, 0 where the face is made.
-fn face_number(em: u32, glyphs: &[GlyphRecord], codes: &[CodeRecord]) -> u8 {
+fn face_number<'a>(em: u32, glyphs: &'a [GlyphRecord], codes: &'a [CodeRecord]) -> u8 {
     match RecordFace::new(em, glyphs, codes) {
         Ok(_face) => 0,
         Err(refusal) => refusal.number(),
