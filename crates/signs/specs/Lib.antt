@@ -1,0 +1,4 @@
+pub mod Props
+pub mod Rows
+pub mod Refusals
+pub mod Signs

@@ -1,0 +1,9 @@
+// Signs: the numbers of one sign of a line, checked signs, what they say, and the classes of marks.
+mod props;
+mod refusal;
+mod row;
+mod sign;
+
+pub use refusal::Refusal;
+pub use row::SignRow;
+pub use sign::Sign;
