@@ -6,7 +6,7 @@ ghost use Rattle.signs.specs.Props.{isAllowed};
 pub mod made;
 pub mod readings;
 
-#[derive(Clone, Copy)]
+#[derive(Clone, Copy, PartialEq, Eq, Debug)]
 pub struct Sign {
     code: u32,
     unicode_props: u16,
