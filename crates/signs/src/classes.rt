@@ -1,6 +1,6 @@
 // The combining classes by which marks are placed.
 ghost use mathlib.Core.Path.{_≡_};
-ghost use Rattle.signs.specs.Classes.{byCode, lookup, recategorized, ofScript};
+ghost use Rattle.signs.specs.Classes.{byCode, byScript, lookup, recategorized};
 
 // Thai and Lao marks of class 0, by their codes.
 const THAI_AND_LAO_MARKS: [(u32, u8); 18] = [
@@ -88,7 +88,7 @@ fn class_by_code(code: u32, class: u8) -> u8
 
 // A class of one script becomes the class of a place.
 fn class_by_script(class: u8) -> u8
-    ensures { λ r. ⌜ r ≡ ofScript class ⌝ }
+    ensures { λ r. ⌜ r ≡ byScript class ⌝ }
 {
     look_up(&SCRIPT_CLASSES, class as u32, class)
 }

@@ -1,6 +1,7 @@
 // The category and the class in the properties of a sign, and which properties a sign may have.
 ghost use mathlib.Core.Path.{_≡_};
 ghost use Rattle.signs.specs.Props.{categoryOf, classOf, hasClass, hasCategory, isAllowed, isMarkOf};
+ghost use Rattle.signs.specs.Reclassing.{withClass};
 
 pub fn category_of(props: u16) -> u8
     ensures { λ r. ⌜ r ≡ categoryOf props ⌝ }
@@ -39,4 +40,11 @@ pub fn is_allowed(props: u16) -> bool
     ensures { λ r. ⌜ r ≡ isAllowed props ⌝ }
 {
     has_category(props) && has_class(props)
+}
+
+// Another class in the high byte.
+pub fn with_class(props: u16, class: u8) -> u16
+    ensures { λ r. ⌜ r ≡ withClass props class ⌝ }
+{
+    class as u16 * 256 + props % 256
 }

@@ -3,6 +3,7 @@ ghost use mathlib.Core.Bool.{true};
 ghost use mathlib.Core.Path.{_≡_};
 ghost use Rattle.signs.specs.Props.{isAllowed};
 
+pub mod classed;
 pub mod made;
 pub mod readings;
 

@@ -1,0 +1,27 @@
+-- Rows that are read.
+use Prim.Native.Nat.{ℕ}
+use mathlib.Core.Bool.{true}
+use mathlib.Core.Path.{_≡_, refl, ap}
+use Rattle.std.proofs.shelf.Tests.{cond-both, cond-true}
+use Rattle.signs.specs.declared.row.SignRow.{SignRow}
+use Rattle.signs.specs.Props.{isAllowed}
+use Rattle.signs.specs.Rows.{readRow}
+use Rattle.signs.specs.Signs.{rowOf}
+use Rattle.signs.specs.Laws.{Read, ReadingStands, SignsReadThemselves}
+
+abbrev pub with-props : SignRow → ℕ → SignRow
+with-props r p = record { code = r .code; «unicode_props» = p; «glyph_props» = r .«glyph_props»; «lig_props» = r .«lig_props» }
+
+pub itself : (r : SignRow) → isAllowed (r .«unicode_props») ≡ true → readRow r ≡ r
+itself r h = ap (with-props r) (cond-true (isAllowed (r .«unicode_props»)) (r .«unicode_props») 4637 h)
+
+pub allowed : (r : SignRow) → isAllowed (readRow r .«unicode_props») ≡ true
+allowed r =
+    let p = r .«unicode_props» in
+    cond-both (isAllowed p) p 4637 (λ x. isAllowed x ≡ true) (λ h. h) (λ h. refl)
+
+pub reading-stands : ReadingStands
+reading-stands r = record { itself = itself r; allowed = allowed r; again = itself (readRow r) (allowed r) }
+
+pub signs-read-themselves : SignsReadThemselves
+signs-read-themselves s = itself (rowOf s) (s .allowed)
