@@ -7,7 +7,7 @@ use Rattle.signs.specs.declared.row.SignRow.{SignRow}
 use Rattle.signs.specs.Props.{isAllowed}
 use Rattle.signs.specs.Rows.{readRow}
 use Rattle.signs.specs.Signs.{rowOf}
-use Rattle.signs.specs.Laws.{Read, ReadingStands, SignsReadThemselves}
+use Rattle.signs.specs.Laws.{ReadingStands, SignsReadThemselves}
 
 abbrev pub with-props : SignRow → ℕ → SignRow
 with-props r p = record { code = r .code; «unicode_props» = p; «glyph_props» = r .«glyph_props»; «lig_props» = r .«lig_props» }

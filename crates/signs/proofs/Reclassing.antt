@@ -11,7 +11,7 @@ use Rattle.signs.specs.Props.{categoryOf, classOf, isMarkOf, hasCategory, hasC
 use Rattle.signs.specs.Rows.{readRow}
 use Rattle.signs.specs.Classes.{recategorized}
 use Rattle.signs.specs.Reclassing.{withClass, recategorizedProps, recategorizedRow, reclassed}
-use Rattle.signs.specs.Laws.{Reclassed, ReclassingStands}
+use Rattle.signs.specs.Laws.{ReclassingStands}
 use Rattle.signs.proofs.Tables.{recategorized-again, recategorized-high}
 use Rattle.signs.proofs.Reading.{with-props, itself, allowed}
 
@@ -54,12 +54,12 @@ module _ (code p : ℕ) where
       let c : ℕ = recategorized code (classOf p) in
       ⊎-elim
       (λ mark.
-          let first : recategorizedProps code p ≡ withClass p c = cond-true _ _ _ mark in
-          ap (recategorizedProps code) first
-          ∙ cond-true _ _ _ (ap (λ n. eqb n 12) (same-category p c) ∙ mark)
-          ∙ ap (withClass (withClass p c)) (ap (recategorized code) (other-class p c) ∙ recategorized-again code (classOf p))
-          ∙ class-twice p c
-          ∙ sym first)
+      let first : recategorizedProps code p ≡ withClass p c = cond-true _ _ _ mark in
+      ap (recategorizedProps code) first
+      ∙ cond-true _ _ _ (ap (λ n. eqb n 12) (same-category p c) ∙ mark)
+      ∙ ap (withClass (withClass p c)) (ap (recategorized code) (other-class p c) ∙ recategorized-again code (classOf p))
+      ∙ class-twice p c
+      ∙ sym first)
       (λ other. ap (recategorizedProps code) (cond-false _ _ _ other))
       (cases-bool (eqb (categoryOf p) 12))
 

@@ -8,7 +8,7 @@ use mathlib.Core.Path.{_≡_, refl, sym, ap, subst, _∙_}
 use native.Mathlib.Omega.{arith}
 use Rattle.std.proofs.shelf.Tests.{and-parts, cond-both, cond-true, cond-false, eqb-true, ne-eqb, leb-true}
 use Rattle.signs.specs.Classes.{lookup, scriptClasses, thaiMarks, laoMarks, byScript, byCode, recategorized}
-use Rattle.signs.specs.Laws.{isPlace, Class, ClassesStand}
+use Rattle.signs.specs.Laws.{isPlace, ClassesStand}
 
 -- every entry gives the class of a place
 abbrev pub allPlaces : List (ℕ × ℕ) → Bool

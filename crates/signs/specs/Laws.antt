@@ -17,20 +17,20 @@ abbrev pub isPlace : ℕ → Bool
 isPlace c = leb 200 c && leb c 254
 
 -- A class stays, or becomes that of a place; so a second time changes nothing. Only codes 0x0E00 to 0x0EFF matter.
-pub record Class (code c : ℕ) : Type 0 where
+pub record ClassKeeps (code c : ℕ) : Type 0 where
   pub placed : (recategorized code c ≡ c) ⊎ (isPlace (recategorized code c) ≡ true)
   pub again : recategorized code (recategorized code c) ≡ recategorized code c
   pub byItself : (code / 256 ≡ 0x0E → ⊥) → recategorized code c ≡ recategorized 0 c
 
 -- A row that is read is one that a sign may have, and such a row is read as itself.
-pub record Read (r : SignRow) : Type 0 where
+pub record ReadKeeps (r : SignRow) : Type 0 where
   pub itself : isAllowed (r .«unicode_props») ≡ true → readRow r ≡ r
   pub allowed : isAllowed (readRow r .«unicode_props») ≡ true
   pub again : readRow (readRow r) ≡ readRow r
 
 -- Classing changes nothing but the class of a nonspacing mark, so marks stay marks and others others; what it writes is
 -- read as itself, and classing it again changes nothing.
-pub record Reclassed (r : SignRow) : Type 0 where
+pub record ReclassedKeeps (r : SignRow) : Type 0 where
   pub others : isNonspacingMark (readRow r) ≡ false → reclassed r ≡ readRow r
   pub marks : isNonspacingMark (readRow r) ≡ true → class (reclassed r) ≡ recategorized (r .code) (class (readRow r))
   pub keepsCode : reclassed r .code ≡ r .code
@@ -43,13 +43,13 @@ pub record Reclassed (r : SignRow) : Type 0 where
   pub again : reclassed (reclassed r) ≡ reclassed r
 
 abbrev pub ClassesStand : Type 0
-ClassesStand = (code c : ℕ) → Class code c
+ClassesStand = (code c : ℕ) → ClassKeeps code c
 
 abbrev pub ReadingStands : Type 0
-ReadingStands = (r : SignRow) → Read r
+ReadingStands = (r : SignRow) → ReadKeeps r
 
 abbrev pub ReclassingStands : Type 0
-ReclassingStands = (r : SignRow) → Reclassed r
+ReclassingStands = (r : SignRow) → ReclassedKeeps r
 
 -- The row of a sign is read as that sign.
 abbrev pub SignsReadThemselves : Type 0

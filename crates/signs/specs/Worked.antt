@@ -29,8 +29,8 @@ pub record WorkedClasses : Type 0 where
   pub kasratan : recategorized 0x064D 30 ≡ 220
   pub kasra : recategorized 0x0650 33 ≡ 220
   pub alaph : recategorized 0x0711 36 ≡ 230
-  -- Thai: a vowel above of class 0, below, a tone, and the virama with any class but 0 and those of places
-  pub saraAm : recategorized 0x0E31 0 ≡ 232
+  -- Thai: a mark above of class 0, a vowel below, a tone, and the virama with any class but 0 and those of places
+  pub maiHanAkat : recategorized 0x0E31 0 ≡ 232
   pub saraU : recategorized 0x0E38 3 ≡ 222
   pub maiEk : recategorized 0x0E48 107 ≡ 232
   pub virama : recategorized 0x0E3A 9 ≡ 222
@@ -38,13 +38,13 @@ pub record WorkedClasses : Type 0 where
   pub viramaOfNone : recategorized 0x0E3A 0 ≡ 0
   pub viramaPlaced : recategorized 0x0E3A 200 ≡ 200
   pub thaiUnlisted : recategorized 0x0E32 0 ≡ 0
-  -- Lao: vowels above and below of class 0, below, a tone
+  -- Lao: marks above and below of class 0, a vowel below, a tone
   pub laoAbove : recategorized 0x0EB1 0 ≡ 230
   pub laoLast : recategorized 0x0ECD 0 ≡ 230
   pub laoBelow : recategorized 0x0EBC 0 ≡ 220
   pub laoU : recategorized 0x0EB8 118 ≡ 220
   pub laoTone : recategorized 0x0EC8 122 ≡ 230
-  -- Tibetan: sign aa, i, u; no class of Unicode is 130 here
+  -- Tibetan: signs aa, i and u; no mark has 130, the class of Unicode for i
   pub tibetanAa : recategorized 0x0F71 129 ≡ 220
   pub tibetanI : recategorized 0x0F72 132 ≡ 230
   pub tibetanU : recategorized 0x0F74 131 ≡ 220
@@ -62,7 +62,6 @@ pub record WorkedRows : Type 0 where
   pub lastClassKept : readRow (row 65 0xFE0A 0 0) ≡ row 65 0xFE0A 0 0
   pub badIsSpace : isSpace (readRow (row 65 31 0 0)) ≡ true
   pub badIsWide : spaceType (readRow (row 65 31 0 0)) ≡ 18
-  pub badIsAllowed : category (row 0 4637 0 0) ≡ 29
   pub codeFirst : signOutcome 0x110000 31 0 0 ≡ Err 10
   pub categoryNext : signOutcome 0x10FFFF 0xFF1E 0 0 ≡ Err 11
   pub classLast : signOutcome 65 0xFF0B 0 0 ≡ Err 12
@@ -83,4 +82,8 @@ pub record WorkedRows : Type 0 where
   pub noComponent : ligComp (row 0 0 0x24 0x72) ≡ 0
   pub markOn : ligComp (row 0 0 0x08 0x62) ≡ 2
   pub markAlone : ligNumComps (row 0 0 0x08 0x62) ≡ 1
-  pub unlisted : ligNumComps (row 0 0 0x20 0x72) ≡ 1
+  pub noLigature : ligNumComps (row 0 0 0x20 0x72) ≡ 1
+
+pub record Worked : Type 0 where
+  pub classes : WorkedClasses
+  pub rows : WorkedRows

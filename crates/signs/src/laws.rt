@@ -1,6 +1,6 @@
 // The laws of signs, for callers to rest on.
 ghost use Rattle.signs.specs.Laws.{ClassesStand, ReadingStands, ReclassingStands, SignsReadThemselves};
-ghost use Rattle.signs.specs.Worked.{WorkedClasses, WorkedRows};
+ghost use Rattle.signs.specs.Worked.{Worked};
 
 // What reading and classing keep, of every row, and worked classes and rows.
 pub fn signs_stand() -> bool
@@ -8,7 +8,7 @@ pub fn signs_stand() -> bool
     ensures reading { λ _. ⌜ ReadingStands ⌝ }
     ensures reclassing { λ _. ⌜ ReclassingStands ⌝ }
     ensures themselves { λ _. ⌜ SignsReadThemselves ⌝ }
-    ensures worked { λ _. ⌜ WorkedClasses ⌝ ∗ ⌜ WorkedRows ⌝ }
+    ensures worked { λ _. ⌜ Worked ⌝ }
 {
     true
 }

@@ -41,7 +41,11 @@ impl Sign {
     pub fn read(row: SignRow) -> Sign
         ensures { λ r. ⌜ rowOf r ≡ readRow row ⌝ }
     {
-        let unicode_props = if is_allowed(row.unicode_props) { row.unicode_props } else { 4637 };
+        let unicode_props = if is_allowed(row.unicode_props) {
+            row.unicode_props
+        } else {
+            4637
+        };
         Sign {
             code: row.code,
             unicode_props,

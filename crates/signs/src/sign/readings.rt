@@ -1,6 +1,6 @@
 // What a sign says.
 ghost use mathlib.Core.Path.{_≡_};
-ghost use Rattle.signs.specs.Rows.{category, class, isLigated, isMark, isNonspacingMark, isSpace, ligComp, ligId, ligNumComps, spaceType};
+ghost use Rattle.signs.specs.Rows.{category, class, isLigBase, isLigated, isLigature, isMark, isNonspacingMark, isSpace, ligComp, ligId, ligNumComps, spaceType};
 ghost use Rattle.signs.specs.Signs.{rowOf};
 use crate::props::category_of;
 use crate::props::class_of;
@@ -21,7 +21,7 @@ impl Sign {
         class_of(self.unicode_props)
     }
 
-    // Of a space, how wide it is.
+    // Of a space, which space it is.
     pub fn space_type(self) -> u8
         ensures { λ r. ⌜ r ≡ spaceType (rowOf self) ⌝ }
     {
@@ -46,11 +46,25 @@ impl Sign {
         self.category() == 29
     }
 
-    // Whether the sign is a ligature that was formed in this line.
+    // Whether the sign was formed as a ligature.
     pub fn is_ligated(self) -> bool
         ensures { λ r. ⌜ r ≡ isLigated (rowOf self) ⌝ }
     {
         self.glyph_props / 0x20 % 2 == 1
+    }
+
+    // Whether the font has the sign as a ligature.
+    fn is_ligature(self) -> bool
+        ensures { λ r. ⌜ r ≡ isLigature (rowOf self) ⌝ }
+    {
+        self.glyph_props / 0x04 % 2 == 1
+    }
+
+    // Whether the sign is its ligature, and not a mark on a component.
+    fn is_lig_base(self) -> bool
+        ensures { λ r. ⌜ r ≡ isLigBase (rowOf self) ⌝ }
+    {
+        self.lig_props / 0x10 % 2 == 1
     }
 
     // The ligature that the sign belongs to; 0 for none.
@@ -60,18 +74,22 @@ impl Sign {
         self.lig_props >> 5
     }
 
-    // The component of its ligature that a mark stands on; 0 for none, and for the ligature itself.
+    // The ligature component that a mark stands on; 0 for none.
     pub fn lig_comp(self) -> u8
         ensures { λ r. ⌜ r ≡ ligComp (rowOf self) ⌝ }
     {
-        if self.lig_props / 0x10 % 2 == 1 { 0 } else { self.lig_props % 16 }
+        if self.is_lig_base() {
+            0
+        } else {
+            self.lig_props % 16
+        }
     }
 
-    // How many components the sign has: 1 but for the base of a ligature.
+    // How many components the sign has.
     pub fn lig_num_comps(self) -> u8
         ensures { λ r. ⌜ r ≡ ligNumComps (rowOf self) ⌝ }
     {
-        if self.lig_props / 0x10 % 2 == 1 && self.glyph_props / 0x04 % 2 == 1 {
+        if self.is_lig_base() && self.is_ligature() {
             self.lig_props % 16
         } else {
             1

@@ -1,4 +1,4 @@
-use Rattle.signs.proofs.Computed.{worked-classes, worked-rows}
+use Rattle.signs.proofs.Computed.{worked}
 use Rattle.signs.proofs.Reading.{reading-stands, signs-read-themselves}
 use Rattle.signs.proofs.Reclassing.{reclassing-stands}
 use Rattle.signs.proofs.Tables.{classes-stand}
@@ -10,5 +10,5 @@ returns c = record {
   reading = reading-stands;
   reclassing = reclassing-stands;
   themselves = signs-read-themselves;
-  worked = (worked-classes, worked-rows);
+  worked = worked;
 }
