@@ -1,11 +1,11 @@
 -- Rows that are classed.
 use Prim.Native.Nat.{ℕ, _%_, _≤_}
 use lib.Dec.{eqb, leb}
-use mathlib.Core.Bool.{true, not, _&&_, _||_}
+use mathlib.Core.Bool.{true, not, _&&_}
 use mathlib.Core.Logic.{⊎-elim}
 use mathlib.Core.Path.{_≡_, refl, sym, ap, _∙_}
 use native.Mathlib.Omega.{arith}
-use Rattle.std.proofs.shelf.Tests.{and-parts, and-from, or-right, cond-both, cond-true, cond-false, cases-bool, eqb-true, leb-true, le-leb}
+use Rattle.std.proofs.shelf.Tests.{and-parts, and-from, or-right, cond-both, cond-true, cond-false, cases-bool, eqb-true, le-leb}
 use Rattle.signs.specs.declared.row.SignRow.{SignRow}
 use Rattle.signs.specs.Props.{categoryOf, classOf, isMarkOf, hasCategory, hasClass, isAllowed}
 use Rattle.signs.specs.Rows.{readRow}
@@ -13,7 +13,7 @@ use Rattle.signs.specs.Classes.{recategorized}
 use Rattle.signs.specs.Reclassing.{withClass, recategorizedProps, recategorizedRow, reclassed}
 use Rattle.signs.specs.Laws.{ReclassingStands}
 use Rattle.signs.proofs.Tables.{recategorized-again, recategorized-high}
-use Rattle.signs.proofs.Reading.{with-props, itself, allowed}
+use Rattle.signs.proofs.Reading.{with-props, itself, allowed, mark-class-high}
 
 module _ (p c : ℕ) where
   same-low-byte : withClass p c % 256 ≡ p % 256
@@ -35,15 +35,13 @@ module _ (p c : ℕ) where
       (or-right (not (isMarkOf (withClass p c))) _ (le-leb _ _ (omega arith)))
 
 module _ (code p : ℕ) where
-  class-high : isAllowed p ≡ true → eqb (categoryOf p) 12 ≡ true → classOf p ≤ 254
-  class-high h mark =
-      let given = and-parts (hasCategory p) (hasClass p) h .1 in
-      leb-true _ _ (sym (ap (λ n. not (leb 10 n && leb n 12) || leb (classOf p) 254) (eqb-true _ _ mark)) ∙ given)
+  nonspacing-is-mark : eqb (categoryOf p) 12 ≡ true → isMarkOf p ≡ true
+  nonspacing-is-mark mark = ap (λ n. leb 10 n && leb n 12) (eqb-true (categoryOf p) 12 mark)
 
   -- a nonspacing mark of another class is a sign again
   pub classed-allowed : isAllowed p ≡ true → eqb (categoryOf p) 12 ≡ true → isAllowed (withClass p (recategorized code (classOf p))) ≡ true
   classed-allowed h mark =
-      allowed-with p (recategorized code (classOf p)) h (recategorized-high code (classOf p) (class-high h mark))
+      allowed-with p (recategorized code (classOf p)) h (recategorized-high code (classOf p) (mark-class-high p h (nonspacing-is-mark mark)))
 
   -- what holds of the properties with another class, and of the properties, holds of those of the classed sign
   either : (P : ℕ → Type 0) → (eqb (categoryOf p) 12 ≡ true → P (withClass p (recategorized code (classOf p)))) → P p → P (recategorizedProps code p)

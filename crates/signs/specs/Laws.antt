@@ -1,5 +1,5 @@
 -- What holds of every row that is read, and of every row that is classed.
-use Prim.Native.Nat.{ℕ, _/_, _%_}
+use Prim.Native.Nat.{ℕ, _/_, _%_, _≤_}
 use lib.Dec.{leb}
 use mathlib.Core.Bool.{Bool, true, false, _&&_}
 use mathlib.Core.Logic.{_⊎_}
@@ -22,10 +22,13 @@ pub record ClassKeeps (code c : ℕ) : Type 0 where
   pub again : recategorized code (recategorized code c) ≡ recategorized code c
   pub byItself : (code / 256 ≡ 0x0E → ⊥) → recategorized code c ≡ recategorized 0 c
 
--- A row that is read is one that a sign may have, and such a row is read as itself.
+-- A row that is read is one that a sign may have: of a category of at most 29 and, if it is a mark, of a class of at most
+-- 254. Such a row is read as itself.
 pub record ReadKeeps (r : SignRow) : Type 0 where
   pub itself : isAllowed (r .«unicode_props») ≡ true → readRow r ≡ r
   pub allowed : isAllowed (readRow r .«unicode_props») ≡ true
+  pub hasCategory : category (readRow r) ≤ 29
+  pub hasClass : isMark (readRow r) ≡ true → class (readRow r) ≤ 254
   pub again : readRow (readRow r) ≡ readRow r
 
 -- Classing changes nothing but the class of a nonspacing mark, so marks stay marks and others others; what it writes is

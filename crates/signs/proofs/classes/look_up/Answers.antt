@@ -1,5 +1,4 @@
 use mathlib.Core.Path.{sym, _∙_}
-use lib.ListN.{getD}
 use Rattle.std.proofs.shelf.Lists.{at-drop-more, at-drop-all}
 use Rattle.std.proofs.shelf.Tests.{cond-true, cond-false, eq-eqb, ne-eqb}
 use Rattle.signs.specs.Classes.{lookup}
@@ -7,13 +6,11 @@ use Rattle.signs.proofs.classes.look_up.Needs as need
 
 pub returns-then-number-wanted : need.returns-then-number-wanted
 returns-then-number-wanted c =
-    let t = c .args .table .now in let i = c .loop-number .number-index in
-    sym (c .loop-number .inv ∙ at-drop-more (lookup (c .args .wanted) (c .args .otherwise)) t i (0, 0) (c .loop-number-test .taken) ∙ cond-true _ _ _ (eq-eqb _ _ (c .if-number-wanted .taken)))
+    sym (c .loop-number .inv ∙ at-drop-more (lookup (c .args .wanted) (c .args .otherwise)) (c .args .table .now) _ (0, 0) (c .loop-number-test .taken) ∙ cond-true _ _ _ (eq-eqb _ _ (c .if-number-wanted .taken)))
 
 pub loop-number-again : need.loop-number-again
 loop-number-again c =
-    let t = c .args .table .now in let i = c .loop-number .number-index in
-    c .loop-number .inv ∙ at-drop-more (lookup (c .args .wanted) (c .args .otherwise)) t i (0, 0) (c .loop-number-test .taken) ∙ cond-false _ _ _ (ne-eqb _ _ (c .if-number-wanted .left))
+    c .loop-number .inv ∙ at-drop-more (lookup (c .args .wanted) (c .args .otherwise)) (c .args .table .now) _ (0, 0) (c .loop-number-test .taken) ∙ cond-false _ _ _ (ne-eqb _ _ (c .if-number-wanted .left))
 
 pub returns : need.returns
 returns c = sym (c .loop-number .inv ∙ at-drop-all (lookup (c .args .wanted) (c .args .otherwise)) _ _ (c .loop-number-test .left))
