@@ -6,12 +6,12 @@ use mathlib.Core.Path.{_≡_, refl, sym, ap, _∙_}
 use Rattle.std.proofs.shelf.Tests.{and-parts, cond-both, cond-true, leb-true}
 use Rattle.signs.specs.declared.row.SignRow.{SignRow}
 use Rattle.signs.specs.Props.{categoryOf, classOf, isMarkOf, hasCategory, hasClass, isAllowed}
-use Rattle.signs.specs.Rows.{readRow}
+use Rattle.signs.specs.Rows.{rowFrom, readRow}
 use Rattle.signs.specs.Signs.{rowOf}
 use Rattle.signs.specs.Laws.{ReadingStands, SignsReadThemselves}
 
 abbrev pub with-props : SignRow → ℕ → SignRow
-with-props r p = record { code = r .code; «unicode_props» = p; «glyph_props» = r .«glyph_props»; «lig_props» = r .«lig_props» }
+with-props r p = rowFrom (r .code) p (r .«glyph_props») (r .«lig_props»)
 
 pub itself : (r : SignRow) → isAllowed (r .«unicode_props») ≡ true → readRow r ≡ r
 itself r h = ap (with-props r) (cond-true (isAllowed (r .«unicode_props»)) (r .«unicode_props») 4637 h)

@@ -6,7 +6,7 @@ use mathlib.Core.List.{List, [], _∷_, _++_}
 use mathlib.Core.Logic.{_⊎_, inl, inr, ⊎-elim}
 use mathlib.Core.Path.{_≡_, refl, sym, ap, subst, _∙_}
 use native.Mathlib.Omega.{arith}
-use Rattle.std.proofs.shelf.Tests.{and-parts, cond-both, cond-true, cond-false, eqb-true, ne-eqb, leb-true}
+use Rattle.std.proofs.shelf.Tests.{and-parts, cond-both, cond-true, cond-false, eqb-true, ne-eqb, leb-true, le-leb}
 use Rattle.signs.specs.Classes.{lookup, scriptClasses, thaiMarks, laoMarks, byScript, byCode, recategorized}
 use Rattle.signs.specs.Laws.{isPlace, ClassesStand}
 
@@ -43,6 +43,9 @@ module _ (code c : ℕ) where
       (λ h. inl refl)
       (λ h. ⊎-elim (λ e. subst (Settles c) (sym e) by-code) (λ p. inr p) (found (byCode code c) (byCode code c) scriptClasses refl))
 
+  stays : 200 ≤ c → recategorized code c ≡ c
+  stays h = cond-true _ _ _ (le-leb 200 c h)
+
   pub recategorized-again : recategorized code (recategorized code c) ≡ recategorized code c
   recategorized-again =
       ⊎-elim (λ e. ap (recategorized code) e)
@@ -59,4 +62,4 @@ module _ (code c : ℕ) where
       placed
 
 pub classes-stand : ClassesStand
-classes-stand code c = record { placed = placed code c; again = recategorized-again code c; byItself = by-itself code c }
+classes-stand code c = record { placed = placed code c; stays = stays code c; again = recategorized-again code c; byItself = by-itself code c }

@@ -16,9 +16,11 @@ use Rattle.signs.specs.Reclassing.{reclassed}
 abbrev pub isPlace : ℕ → Bool
 isPlace c = leb 200 c && leb c 254
 
--- A class stays, or becomes that of a place; so a second time changes nothing. Only codes 0x0E00 to 0x0EFF matter.
+-- A class stays, or becomes that of a place, and that of a place stays; so a second time changes nothing. Codes other than
+-- 0x0E00 to 0x0EFF make no difference.
 pub record ClassKeeps (code c : ℕ) : Type 0 where
   pub placed : (recategorized code c ≡ c) ⊎ (isPlace (recategorized code c) ≡ true)
+  pub stays : 200 ≤ c → recategorized code c ≡ c
   pub again : recategorized code (recategorized code c) ≡ recategorized code c
   pub byItself : (code / 256 ≡ 0x0E → ⊥) → recategorized code c ≡ recategorized 0 c
 

@@ -5,7 +5,7 @@ use mathlib.Core.Bool.{cond}
 use Rattle.signs.specs.declared.row.SignRow.{SignRow}
 use Rattle.signs.specs.Props.{categoryOf, classOf}
 use Rattle.signs.specs.Classes.{recategorized}
-use Rattle.signs.specs.Rows.{readRow}
+use Rattle.signs.specs.Rows.{rowFrom, readRow}
 
 -- Properties with another class.
 abbrev pub withClass : ℕ → ℕ → ℕ
@@ -16,12 +16,7 @@ abbrev pub recategorizedProps : ℕ → ℕ → ℕ
 recategorizedProps code p = cond (eqb (categoryOf p) 12) (withClass p (recategorized code (classOf p))) p
 
 abbrev pub recategorizedRow : SignRow → SignRow
-recategorizedRow r = record {
-  code = r .code;
-  «unicode_props» = recategorizedProps (r .code) (r .«unicode_props»);
-  «glyph_props» = r .«glyph_props»;
-  «lig_props» = r .«lig_props»;
-}
+recategorizedRow r = rowFrom (r .code) (recategorizedProps (r .code) (r .«unicode_props»)) (r .«glyph_props») (r .«lig_props»)
 
 -- The row is read first, so a row that no sign may have is written as a space.
 abbrev pub reclassed : SignRow → SignRow

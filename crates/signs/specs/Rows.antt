@@ -5,14 +5,18 @@ use mathlib.Core.Bool.{Bool, cond, _&&_}
 use Rattle.signs.specs.declared.row.SignRow.{SignRow}
 use Rattle.signs.specs.Props.{categoryOf, classOf, isMarkOf, readProps}
 
+-- The row of a code, the properties of its character and of its glyph, and those of its ligature.
+abbrev pub rowFrom : ℕ → ℕ → ℕ → ℕ → SignRow
+rowFrom code props glyph lig = record {
+  code = code;
+  «unicode_props» = props;
+  «glyph_props» = glyph;
+  «lig_props» = lig;
+}
+
 -- Only properties that no sign may have are changed.
 abbrev pub readRow : SignRow → SignRow
-readRow r = record {
-  code = r .code;
-  «unicode_props» = readProps (r .«unicode_props»);
-  «glyph_props» = r .«glyph_props»;
-  «lig_props» = r .«lig_props»;
-}
+readRow r = rowFrom (r .code) (readProps (r .«unicode_props»)) (r .«glyph_props») (r .«lig_props»)
 
 abbrev pub category : SignRow → ℕ
 category r = categoryOf (r .«unicode_props»)

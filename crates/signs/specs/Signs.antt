@@ -7,14 +7,10 @@ use Rattle.std.specs.declared.result.Result.the-variants.{Ok, Err}
 use Rattle.signs.specs.declared.row.SignRow.{SignRow}
 use Rattle.signs.specs.declared.sign.Sign.{Sign}
 use Rattle.signs.specs.Props.{hasCategory, hasClass}
+use Rattle.signs.specs.Rows.{rowFrom}
 
 abbrev pub rowOf : Sign → SignRow
-rowOf s = record {
-  code = s .code;
-  «unicode_props» = s .«unicode_props»;
-  «glyph_props» = s .«glyph_props»;
-  «lig_props» = s .«lig_props»;
-}
+rowOf s = rowFrom (s .code) (s .«unicode_props») (s .«glyph_props») (s .«lig_props»)
 
 -- The row of the sign with these numbers, or the smallest number of a refusal that fits.
 abbrev pub signOutcome : ℕ → ℕ → ℕ → ℕ → Result SignRow ℕ
@@ -22,4 +18,4 @@ signOutcome code props glyph lig =
     cond (not (leb code 0x10FFFF)) (Err 10)
     (cond (not (hasCategory props)) (Err 11)
     (cond (not (hasClass props)) (Err 12)
-    (Ok (record { code = code; «unicode_props» = props; «glyph_props» = glyph; «lig_props» = lig }))))
+    (Ok (rowFrom code props glyph lig))))

@@ -1,17 +1,12 @@
 -- Worked classes and readings.
-use Prim.Native.Nat.{ℕ}
 use mathlib.Core.Bool.{true, false}
 use mathlib.Core.Path.{_≡_}
-use Rattle.std.specs.declared.result.Result.{Result}
 use Rattle.std.specs.declared.result.Result.the-variants.{Ok, Err}
 use Rattle.signs.specs.declared.row.SignRow.{SignRow}
-use Rattle.signs.specs.Rows.{readRow, category, class, spaceType, isMark, isNonspacingMark, isSpace, isLigated, ligId, ligComp, ligNumComps}
+use Rattle.signs.specs.Rows.{rowFrom, readRow, class, spaceType, isMark, isNonspacingMark, isSpace, isLigated, ligId, ligComp, ligNumComps}
 use Rattle.signs.specs.Signs.{signOutcome}
 use Rattle.signs.specs.Classes.{recategorized}
 use Rattle.signs.specs.Reclassing.{reclassed}
-
-abbrev pub row : ℕ → ℕ → ℕ → ℕ → SignRow
-row code props glyph lig = record { code = code; «unicode_props» = props; «glyph_props» = glyph; «lig_props» = lig }
 
 pub record WorkedClasses : Type 0 where
   -- Hebrew: sheva, meteg, rafe, shin dot, sin dot, holam, point varika; dagesh stays
@@ -56,33 +51,33 @@ pub record WorkedClasses : Type 0 where
 
 pub record WorkedRows : Type 0 where
   -- categories 30 and 31, and marks of class 255, are read as a space of type 18; a letter may have 255
-  pub badCategory : readRow (row 65 30 4 16) ≡ row 65 4637 4 16
-  pub badClass : readRow (row 0xFFFFFFFF 0xFF0C 1 2) ≡ row 0xFFFFFFFF 4637 1 2
-  pub letterKept : readRow (row 65 0xFF05 0 0) ≡ row 65 0xFF05 0 0
-  pub lastClassKept : readRow (row 65 0xFE0A 0 0) ≡ row 65 0xFE0A 0 0
-  pub badIsSpace : isSpace (readRow (row 65 31 0 0)) ≡ true
-  pub badIsWide : spaceType (readRow (row 65 31 0 0)) ≡ 18
+  pub badCategory : readRow (rowFrom 65 30 4 16) ≡ rowFrom 65 4637 4 16
+  pub badClass : readRow (rowFrom 0xFFFFFFFF 0xFF0C 1 2) ≡ rowFrom 0xFFFFFFFF 4637 1 2
+  pub letterKept : readRow (rowFrom 65 0xFF05 0 0) ≡ rowFrom 65 0xFF05 0 0
+  pub lastClassKept : readRow (rowFrom 65 0xFE0A 0 0) ≡ rowFrom 65 0xFE0A 0 0
+  pub badIsSpace : isSpace (readRow (rowFrom 65 31 0 0)) ≡ true
+  pub badIsOfType : spaceType (readRow (rowFrom 65 31 0 0)) ≡ 18
   pub codeFirst : signOutcome 0x110000 31 0 0 ≡ Err 10
   pub categoryNext : signOutcome 0x10FFFF 0xFF1E 0 0 ≡ Err 11
   pub classLast : signOutcome 65 0xFF0B 0 0 ≡ Err 12
-  pub made : signOutcome 0x10FFFF 0xFE0C 7 9 ≡ Ok (row 0x10FFFF 0xFE0C 7 9)
+  pub made : signOutcome 0x10FFFF 0xFE0C 7 9 ≡ Ok (rowFrom 0x10FFFF 0xFE0C 7 9)
   -- bits 5 to 7 are no part of the category or the class
-  pub sheva : reclassed (row 0x05B0 0x16EC 1 2) ≡ row 0x05B0 0xDCEC 1 2
-  pub spacing : reclassed (row 0x05B0 0x160A 1 2) ≡ row 0x05B0 0x160A 1 2
-  pub unread : reclassed (row 0x05B0 0xFF0C 1 2) ≡ row 0x05B0 4637 1 2
-  pub marks : isMark (row 0 10 0 0) ≡ true
-  pub noMark : isMark (row 0 13 0 0) ≡ false
-  pub nonspacing : isNonspacingMark (row 0 0xE60C 0 0) ≡ true
-  pub classRead : class (row 0 0xE60C 0 0) ≡ 230
+  pub sheva : reclassed (rowFrom 0x05B0 0x16EC 1 2) ≡ rowFrom 0x05B0 0xDCEC 1 2
+  pub spacing : reclassed (rowFrom 0x05B0 0x160A 1 2) ≡ rowFrom 0x05B0 0x160A 1 2
+  pub unread : reclassed (rowFrom 0x05B0 0xFF0C 1 2) ≡ rowFrom 0x05B0 4637 1 2
+  pub marks : isMark (rowFrom 0 10 0 0) ≡ true
+  pub noMark : isMark (rowFrom 0 13 0 0) ≡ false
+  pub nonspacing : isNonspacingMark (rowFrom 0 0xE60C 0 0) ≡ true
+  pub classRead : class (rowFrom 0 0xE60C 0 0) ≡ 230
   -- ligature 3 of two components, its mark on the second one, and a base that the font has not as a ligature
-  pub ligated : isLigated (row 0 0 0x24 0x72) ≡ true
-  pub unligated : isLigated (row 0 0 0xDF 0) ≡ false
-  pub ligature : ligId (row 0 0 0x24 0x72) ≡ 3
-  pub components : ligNumComps (row 0 0 0x24 0x72) ≡ 2
-  pub noComponent : ligComp (row 0 0 0x24 0x72) ≡ 0
-  pub markOn : ligComp (row 0 0 0x08 0x62) ≡ 2
-  pub markAlone : ligNumComps (row 0 0 0x08 0x62) ≡ 1
-  pub noLigature : ligNumComps (row 0 0 0x20 0x72) ≡ 1
+  pub ligated : isLigated (rowFrom 0 0 0x24 0x72) ≡ true
+  pub unligated : isLigated (rowFrom 0 0 0xDF 0) ≡ false
+  pub ligature : ligId (rowFrom 0 0 0x24 0x72) ≡ 3
+  pub components : ligNumComps (rowFrom 0 0 0x24 0x72) ≡ 2
+  pub noComponent : ligComp (rowFrom 0 0 0x24 0x72) ≡ 0
+  pub markOn : ligComp (rowFrom 0 0 0x08 0x62) ≡ 2
+  pub markAlone : ligNumComps (rowFrom 0 0 0x08 0x62) ≡ 1
+  pub noLigature : ligNumComps (rowFrom 0 0 0x20 0x72) ≡ 1
 
 pub record Worked : Type 0 where
   pub classes : WorkedClasses

@@ -1,6 +1,6 @@
 // The category and the class in the properties of a sign, and which properties a sign may have.
 ghost use mathlib.Core.Path.{_≡_};
-ghost use Rattle.signs.specs.Props.{categoryOf, classOf, hasClass, hasCategory, isAllowed, isMarkOf};
+ghost use Rattle.signs.specs.Props.{categoryOf, classOf, hasCategory, hasClass, isAllowed, isMarkOf};
 ghost use Rattle.signs.specs.Reclassing.{withClass};
 
 pub fn category_of(props: u16) -> u8
@@ -15,6 +15,7 @@ pub fn class_of(props: u16) -> u8
     (props >> 8) as u8
 }
 
+// Spacing, enclosing or nonspacing.
 pub fn is_mark_of(props: u16) -> bool
     ensures { λ r. ⌜ r ≡ isMarkOf props ⌝ }
 {
