@@ -1,0 +1,4 @@
+pub mod Tables
+pub mod Reading
+pub mod Reclassing
+pub mod Computed
