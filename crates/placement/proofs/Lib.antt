@@ -3,3 +3,4 @@ pub mod Heights
 pub mod Assembled
 pub mod Keeping
 pub mod OneKeeps
+pub mod Tables

@@ -1,4 +1,8 @@
 pub mod Classes
+pub mod Directions
+pub mod Scripts
+pub mod Text
+pub mod Refusals
 pub mod Room
 pub mod Placing
 pub mod Kept

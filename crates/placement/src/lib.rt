@@ -5,9 +5,17 @@ mod extents;
 mod laws;
 mod marks;
 mod one_mark;
+mod position;
+mod refusal;
+mod scripts;
+mod settings;
 
 pub use direction::Direction;
 pub use extents::Extents;
 pub use extents::PlacedMark;
 pub use laws::placing_stands;
 pub use one_mark::position_one_mark;
+pub use position::Position;
+pub use refusal::Refusal;
+pub use scripts::from_script;
+pub use settings::Settings;
