@@ -6,7 +6,6 @@ use mathlib.Core.Logic.{⊎-elim}
 use mathlib.Core.Path.{_≡_, refl, sym, ap, _∙_}
 use native.Mathlib.Omega.{arith}
 use Rattle.std.proofs.shelf.Tests.{and-parts, and-from, or-right, cond-both, cond-true, cond-false, cases-bool, eqb-true, le-leb}
-use Rattle.signs.specs.declared.row.SignRow.{SignRow}
 use Rattle.signs.specs.Props.{categoryOf, classOf, isMarkOf, hasCategory, hasClass, isAllowed}
 use Rattle.signs.specs.Rows.{readRow}
 use Rattle.signs.specs.Classes.{recategorized}

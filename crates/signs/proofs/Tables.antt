@@ -1,10 +1,10 @@
 -- What a table of classes gives, and the class that is got from it.
 use Prim.Native.Nat.{ℕ, _/_, _≤_}
 use lib.Dec.{eqb, leb}
-use mathlib.Core.Bool.{Bool, true, false, cond, _&&_}
+use mathlib.Core.Bool.{Bool, true, cond, _&&_}
 use mathlib.Core.List.{List, [], _∷_, _++_}
 use mathlib.Core.Logic.{_⊎_, inl, inr, ⊎-elim}
-use mathlib.Core.Path.{_≡_, refl, sym, ap, subst, _∙_}
+use mathlib.Core.Path.{_≡_, refl, sym, ap, subst}
 use native.Mathlib.Omega.{arith}
 use Rattle.std.proofs.shelf.Tests.{and-parts, cond-both, cond-true, cond-false, eqb-true, ne-eqb, leb-true, le-leb}
 use Rattle.signs.specs.Classes.{lookup, scriptClasses, thaiMarks, laoMarks, byScript, byCode, recategorized}

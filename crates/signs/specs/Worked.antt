@@ -2,7 +2,6 @@
 use mathlib.Core.Bool.{true, false}
 use mathlib.Core.Path.{_≡_}
 use Rattle.std.specs.declared.result.Result.the-variants.{Ok, Err}
-use Rattle.signs.specs.declared.row.SignRow.{SignRow}
 use Rattle.signs.specs.Rows.{rowFrom, readRow, class, spaceType, isMark, isNonspacingMark, isSpace, isLigated, ligId, ligComp, ligNumComps}
 use Rattle.signs.specs.Signs.{signOutcome}
 use Rattle.signs.specs.Classes.{recategorized}
