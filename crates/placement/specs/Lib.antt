@@ -8,3 +8,10 @@ pub mod Placing
 pub mod Kept
 pub mod OneMark
 pub mod Worked
+pub mod Lines
+pub mod Mapped
+pub mod Spaces
+pub mod Components
+pub mod Walks
+pub mod Placements
+pub mod Route

@@ -9,6 +9,7 @@ mod position;
 mod refusal;
 mod scripts;
 mod settings;
+mod walk;
 
 pub use direction::Direction;
 pub use extents::Extents;
