@@ -4,3 +4,5 @@ pub mod Assembled
 pub mod Keeping
 pub mod OneKeeps
 pub mod Tables
+pub mod Maps
+pub mod Firsts

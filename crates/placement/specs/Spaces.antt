@@ -20,34 +20,48 @@ abbrev pub size : Bool → ℕ → ℤ
 size true n = pos n
 size false n = negℤ (pos n)
 
--- The advance of a code that has a glyph, or else another one.
-abbrev pub orElse : FaceMeaning → Bool → Option ℕ → ℤ → ℤ
-orElse f h (Some g) otherwise = along f h g
-orElse f h None otherwise = otherwise
+-- The advance of the first of n codes, from a code on, that has a glyph.
+abbrev pub orNext : FaceMeaning → Bool → Option ℕ → Option ℤ → Option ℤ
+orNext f h (Some g) next = Some (along f h g)
+orNext f h None next = next
 
--- The advance of the first of n codes from a code on that has a glyph, or else the one given.
-abbrev pub firstFrom : FaceMeaning → Bool → ℕ → ℕ → ℤ → ℤ
-firstFrom f h code zero otherwise = otherwise
-firstFrom f h code (suc n) otherwise = orElse f h (f .glyph code) (firstFrom f h (code + 1) n otherwise)
+abbrev pub firstOf : FaceMeaning → Bool → ℕ → ℕ → Option ℤ
+firstOf f h code zero = None
+firstOf f h code (suc n) = orNext f h (f .glyph code) (firstOf f h (code + 1) n)
 
--- Types 1 to 6 and 16 are that fraction of the em, 17 four eighteenths, 19 a digit, 20 a full stop or else a comma, 21
--- half of what the space has; any other type keeps what it has.
+abbrev pub orElse : Option ℤ → Option ℤ → Option ℤ
+orElse (Some a) other = Some a
+orElse None other = other
+
+-- Types 1 to 6 and 16 are that fraction of the em, 17 four eighteenths, 19 the first digit, 20 the full stop or else the
+-- comma.
 abbrev pub isFraction : ℕ → Bool
 isFraction t = (leb 1 t && leb t 6) || eqb t 16
 
-abbrev pub spaceAdvance : FaceMeaning → Bool → ℕ → ℤ → ℤ
-spaceAdvance f h t a =
-    cond (isFraction t) (size h ((f .em + t / 2) / t))
-    (cond (eqb t 17) (size h (f .em * 4 / 18))
-    (cond (eqb t 19) (firstFrom f h 48 10 a)
-    (cond (eqb t 20) (firstFrom f h 46 1 (firstFrom f h 44 1 a))
-    (cond (eqb t 21) (quotZ a (pos 2))
-    a))))
+abbrev pub ownAdvance : FaceMeaning → Bool → ℕ → Option ℤ
+ownAdvance f h t =
+    cond (isFraction t) (Some (size h ((f .em + t / 2) / t)))
+    (cond (eqb t 17) (Some (size h (f .em * 4 / 18)))
+    (cond (eqb t 19) (firstOf f h 48 10)
+    (cond (eqb t 20) (orElse (firstOf f h 46 1) (firstOf f h 44 1))
+    None)))
 
 -- Only the advance along the line changes.
+abbrev pub withAdvance : Bool → ℤ → Position → Position
+withAdvance true a p = at a (p .«y_advance») (p .«x_offset») (p .«y_offset»)
+withAdvance false a p = at (p .«x_advance») a (p .«x_offset») (p .«y_offset»)
+
+abbrev pub halvedAlong : Bool → Position → Position
+halvedAlong true p = withAdvance true (quotZ (p .«x_advance») (pos 2)) p
+halvedAlong false p = withAdvance false (quotZ (p .«y_advance») (pos 2)) p
+
+abbrev pub withOwn : Bool → Option ℤ → Position → Position
+withOwn h (Some a) p = withAdvance h a p
+withOwn h None p = p
+
+-- Type 21 is half of what the space has; one with no advance of its own keeps what it has.
 abbrev pub respaced : FaceMeaning → Bool → ℕ → Position → Position
-respaced f true t p = at (spaceAdvance f true t (p .«x_advance»)) (p .«y_advance») (p .«x_offset») (p .«y_offset»)
-respaced f false t p = at (p .«x_advance») (spaceAdvance f false t (p .«y_advance»)) (p .«x_offset») (p .«y_offset»)
+respaced f h t p = cond (eqb t 21) (halvedAlong h p) (withOwn h (ownAdvance f h t) p)
 
 abbrev pub spacePosition : FaceMeaning → Bool → SignRow → Position → Position
 spacePosition f h r p = cond (isSpace r && not (isLigated r)) (respaced f h (spaceType r) p) p

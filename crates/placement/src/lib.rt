@@ -3,12 +3,14 @@ mod classes;
 mod direction;
 mod extents;
 mod laws;
+mod mapping;
 mod marks;
 mod one_mark;
 mod position;
 mod refusal;
 mod scripts;
 mod settings;
+mod spaces;
 mod walk;
 
 pub use direction::Direction;
