@@ -6,3 +6,5 @@ pub mod OneKeeps
 pub mod Tables
 pub mod Maps
 pub mod Firsts
+pub mod Scans
+pub mod EachCell

@@ -66,5 +66,8 @@ respaced f h t p = cond (eqb t 21) (halvedAlong h p) (withOwn h (ownAdvance f h 
 abbrev pub spacePosition : FaceMeaning → Bool → SignRow → Position → Position
 spacePosition f h r p = cond (isSpace r && not (isLigated r)) (respaced f h (spaceType r) p) p
 
+abbrev pub spacedAlong : FaceMeaning → Bool → Cell → Cell
+spacedAlong f h c = cell (c .row) (spacePosition f h (c .row) (c .position))
+
 abbrev pub spaced : FaceMeaning → Settings → Cell → Cell
-spaced f s c = cell (c .row) (spacePosition f (isHorizontal (s .direction)) (c .row) (c .position))
+spaced f s c = spacedAlong f (isHorizontal (s .direction)) c

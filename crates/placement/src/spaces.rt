@@ -1,7 +1,10 @@
 // Spaces: a space that is no ligature gets an advance by its type.
+ghost use lib.ListN.{length};
+ghost use mathlib.Core.List.{map};
 ghost use mathlib.Core.Path.{_≡_};
 ghost use Prim.Native.Nat.{_≤_, _+_, _^_};
-ghost use Rattle.placement.specs.Spaces.{firstOf, halvedAlong, isFraction, ownAdvance, respaced, size, spacePosition, withAdvance};
+ghost use Rattle.placement.specs.Lines.{cells, positionsOf};
+ghost use Rattle.placement.specs.Spaces.{firstOf, halvedAlong, isFraction, ownAdvance, respaced, size, spacePosition, spacedAlong, withAdvance};
 ghost use Rattle.signs.specs.Rows.{readRow};
 use crate::mapping::advance_along;
 use crate::position::Position;
@@ -114,4 +117,19 @@ fn space_position<F: Face>(face: &F, horizontal: bool, row: SignRow, position: P
         return respace(face, horizontal, sign.space_type(), position);
     }
     position
+}
+
+// Gives every space of a line its advance.
+pub(crate) fn fallback_spaces<F: Face>(
+    face: &F,
+    horizontal: bool,
+    rows: &[SignRow],
+    positions: &mut [Position],
+)
+    requires { ⌜ length (now positions) ≡ length (now rows) ⌝ }
+    ensures { λ _. ⌜ now (positions .exit) ≡ positionsOf (map (spacedAlong (meaning (now (face .entry))) horizontal) (cells (now (rows .entry)) (now (positions .entry)))) ⌝ }
+{
+    for i in 0..rows.len() {
+        positions[i] = space_position(face, horizontal, rows[i], positions[i]);
+    }
 }
