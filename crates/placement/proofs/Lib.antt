@@ -4,3 +4,4 @@ pub mod Assembled
 pub mod Keeping
 pub mod OneKeeps
 pub mod Tables
+pub mod ByGroups
