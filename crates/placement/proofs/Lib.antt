@@ -8,3 +8,4 @@ pub mod Maps
 pub mod Firsts
 pub mod Scans
 pub mod EachCell
+pub mod ByGroups

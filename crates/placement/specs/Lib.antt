@@ -15,3 +15,4 @@ pub mod Components
 pub mod Walks
 pub mod Placements
 pub mod Route
+pub mod ByGroups

@@ -1,0 +1,4 @@
+// Looks: what is drawn of a whole line, and what every look keeps.
+mod laws;
+
+pub use laws::lines_stand;
