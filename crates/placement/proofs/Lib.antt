@@ -9,3 +9,6 @@ pub mod Firsts
 pub mod Scans
 pub mod EachCell
 pub mod ByGroups
+pub mod Shares
+pub mod Fields
+pub mod Belonging

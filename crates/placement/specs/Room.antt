@@ -1,10 +1,12 @@
 -- Boxes that leave room for every sum of a placement in 32 bits.
-use Prim.Native.Nat.{ℕ}
+use Prim.Native.Nat.{ℕ, _+_, _*_}
 use lib.IntN.{ℤ, pos, negℤ}
 use lib.Signed.{_≤ℤ_}
 use Rattle.std.specs.declared.option.Option.{Option}
 use Rattle.std.specs.declared.option.Option.the-variants.{Some, None}
 use Rattle.placement.specs.declared.extents.Extents.{Extents}
+use Rattle.placement.specs.declared.position.Position.{Position}
+use Rattle.placement.specs.declared.walk.Walk.{Walk}
 
 -- z lies between -n and n
 abbrev pub Within : ℕ → ℤ → Type 0
@@ -20,3 +22,24 @@ pub record Room (run : Extents) : Type 0 where
 abbrev pub AllRoom : Option Extents → Type 0
 AllRoom (Some run) = Room run
 AllRoom None = Unit {0}
+
+-- A box of at most n units up and down.
+pub record Spans (n : ℕ) (e : Extents) : Type 0 where
+  pub left : Within 1000000 (e .left)
+  pub width : Within 65535 (e .width)
+  pub bottom : Within n (e .bottom)
+  pub top : Within n (e .top)
+
+-- A position that a line may hold: advances of up to 65535 units, offsets of up to 40000000.
+pub record Light (p : Position) : Type 0 where
+  pub xAdvance : Within 65535 (p .«x_advance»)
+  pub yAdvance : Within 65535 (p .«y_advance»)
+  pub xOffset : Within 40000000 (p .«x_offset»)
+  pub yOffset : Within 40000000 (p .«y_offset»)
+
+-- A walk after n marks.
+pub record Near (n : ℕ) (w : Walk) : Type 0 where
+  pub x : Within (65535 + 65535 * n) (w .x)
+  pub y : Within (65535 + 65535 * n) (w .y)
+  pub around : Spans 40032768 (w .around)
+  pub run : Spans (40032768 + 66560 * n) (w .run)

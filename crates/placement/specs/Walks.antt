@@ -2,7 +2,8 @@
 use Prim.Native.Nat.{ℕ}
 use mathlib.Core.Bool.{Bool, true, false, cond}
 use mathlib.Core.List.{List, [], _∷_}
-use lib.Dec.{eqb}
+use mathlib.Core.Path.{_≡_}
+use lib.Dec.{eqb, ltb}
 use lib.IntN.{ℤ, pos, _+ℤ_, _-ℤ_}
 use Rattle.std.specs.declared.option.Option.{Option}
 use Rattle.std.specs.declared.option.Option.the-variants.{Some, None}
@@ -10,6 +11,7 @@ use Rattle.signs.specs.declared.SignRow.{SignRow}
 use Rattle.signs.specs.Rows.{class, ligNumComps}
 use Rattle.faces.specs.Meaning.{FaceMeaning, Edges}
 use Rattle.placement.specs.declared.extents.Extents.{Extents}
+use Rattle.placement.specs.declared.extents.PlacedMark.{PlacedMark}
 use Rattle.placement.specs.declared.position.Position.{Position}
 use Rattle.placement.specs.declared.settings.Settings.{Settings}
 use Rattle.placement.specs.declared.walk.Walk.{Walk}
@@ -60,19 +62,32 @@ toComponent s b k w = cond (eqb (w .component) k) w (record { x = w .x; y = w .y
 abbrev pub toRun : ℕ → Walk → Walk
 toRun c w = cond (eqb (w .class) c) w (record { x = w .x; y = w .y; component = w .component; class = c; around = w .around; run = w .around })
 
+-- Along a base of one component no other component is ever come to.
+abbrev pub Known : Base → Walk → Type 0
+Known b w = ltb 1 (ligNumComps (b .row)) ≡ false → w .component ≡ 0
+
 abbrev pub entered : Settings → Base → SignRow → Walk → Walk
 entered s b m w = toRun (class m) (toComponent s b (component (b .row) m) w)
 
+-- A mark with a box goes to its place and its run reaches further; one without keeps its offsets. Both are corrected, and
+-- have no advances.
+abbrev pub withRun : Walk → Extents → Walk
+withRun w run = record { x = w .x; y = w .y; component = w .component; class = w .class; around = w .around; run = run }
+
+abbrev pub placedAt : Walk → PlacedMark → Position
+placedAt w p = at (pos 0) (pos 0) (p .x +ℤ w .x) (p .y +ℤ w .y)
+
+abbrev pub keptAt : Walk → Position → Position
+keptAt w p = at (pos 0) (pos 0) (p .«x_offset» +ℤ w .x) (p .«y_offset» +ℤ w .y)
+
 module _ (f : FaceMeaning) (s : Settings) where
-  -- A mark with a box goes to its place and its run reaches further; one without keeps its offsets. Both are corrected,
-  -- and have no advances.
   abbrev pub settledWalk : Walk → ℕ → Option Edges → Walk
   settledWalk w c None = w
-  settledWalk w c (Some m) = record { x = w .x; y = w .y; component = w .component; class = w .class; around = w .around; run = placed (w .run) m (gapOf f) c (s .direction) .run }
+  settledWalk w c (Some m) = withRun w (placed (w .run) m (gapOf f) c (s .direction) .run)
 
   abbrev pub settled : Walk → ℕ → Option Edges → Position → Position
-  settled w c None p = at (pos 0) (pos 0) (p .«x_offset» +ℤ w .x) (p .«y_offset» +ℤ w .y)
-  settled w c (Some m) p = at (pos 0) (pos 0) (placed (w .run) m (gapOf f) c (s .direction) .x +ℤ w .x) (placed (w .run) m (gapOf f) c (s .direction) .y +ℤ w .y)
+  settled w c None p = keptAt w p
+  settled w c (Some m) p = placedAt w (placed (w .run) m (gapOf f) c (s .direction))
 
   abbrev pub next : Base → Walk → Cell → Walk
   next b w c = cond (eqb (class (c .row)) 0) (passed (isForward (s .direction)) w (c .position)) (settledWalk (entered s b (c .row) w) (class (c .row)) (ink (f .bounds (c .row .code))))

@@ -1,5 +1,6 @@
 // Placement of marks over any face.
 mod classes;
+mod components;
 mod direction;
 mod extents;
 mod laws;
@@ -12,6 +13,7 @@ mod scripts;
 mod settings;
 mod spaces;
 mod walk;
+mod walking;
 
 pub use direction::Direction;
 pub use extents::Extents;

@@ -1,0 +1,8 @@
+use mathlib.Core.Path.{refl}
+use native.Mathlib.Omega.{arith}
+use Rattle.std.proofs.shelf.Signed.{ints}
+use Rattle.placement.proofs.Fields.{same-at}
+use Rattle.placement.proofs.walking.placed_at.Needs as need
+
+pub returns : need.returns
+returns c = same-at refl refl (omega (arith, ints)) (omega (arith, ints))

@@ -1,0 +1,108 @@
+// The walk along the marks of a group: each mark goes by what those before it left.
+ghost use mathlib.Core.Path.{_≡_};
+ghost use Prim.Native.Nat.{_≤_};
+ghost use Rattle.placement.specs.Components.{component};
+ghost use Rattle.placement.specs.Room.{Light, Near, Spans, Within};
+ghost use Rattle.placement.specs.Walks.{Known, keptAt, passed, placedAt, toComponent, toRun, withRun};
+ghost use Rattle.signs.specs.Signs.{rowOf};
+use crate::components::component_of;
+use crate::components::share_of;
+use crate::extents::Extents;
+use crate::extents::PlacedMark;
+use crate::position::Position;
+use crate::settings::Settings;
+use crate::walk::Walk;
+use signs::Sign;
+
+// A mark of class 0 stays, and the marks after it make up for its advances.
+fn pass(forward: bool, walk: Walk, position: Position) -> Walk
+    requires near { ⌜ Near 256 walk ⌝ }
+    requires light { ⌜ Light position ⌝ }
+    ensures { λ r. ⌜ r ≡ passed forward walk position ⌝ }
+{
+    if forward {
+        Walk {
+            x: walk.x - position.x_advance,
+            y: walk.y - position.y_advance,
+            ..walk
+        }
+    } else {
+        Walk {
+            x: walk.x + position.x_advance,
+            y: walk.y + position.y_advance,
+            ..walk
+        }
+    }
+}
+
+// The walk at the component of a mark: at another one, its box is that component's, and no run has begun.
+fn to_component(settings: Settings, base: Sign, extents: Extents, mark: Sign, walk: Walk) -> Walk
+    requires base { ⌜ Spans 40032768 extents ⌝ }
+    requires known { ⌜ Known (record { row = rowOf base; extents = extents }) walk ⌝ }
+    ensures { λ r. ⌜ r ≡ toComponent settings (record { row = rowOf base; extents = extents }) (component (rowOf base) (rowOf mark)) walk ⌝ }
+{
+    let component_ = component_of(base, mark);
+    if walk.component == component_ {
+        return walk;
+    }
+    Walk {
+        component: component_,
+        class: 0,
+        around: share_of(
+            settings.is_text_ltr(),
+            base.lig_num_comps(),
+            component_,
+            extents,
+        ),
+        ..walk
+    }
+}
+
+// The walk in a run of a class: another one begins from the box of its component.
+fn to_run(class: u8, walk: Walk) -> Walk
+    ensures { λ r. ⌜ r ≡ toRun class walk ⌝ }
+{
+    if walk.class == class {
+        return walk;
+    }
+    Walk {
+        class,
+        run: walk.around,
+        ..walk
+    }
+}
+
+// A mark with a box: at its place, corrected.
+fn placed_at(walk: Walk, placed: PlacedMark) -> Position
+    requires near { ⌜ Near 256 walk ⌝ }
+    requires x { ⌜ Within 1200000 (placed .x) ⌝ }
+    requires y { ⌜ Within 60033792 (placed .y) ⌝ }
+    ensures { λ r. ⌜ r ≡ placedAt walk placed ⌝ }
+{
+    Position {
+        x_advance: 0,
+        y_advance: 0,
+        x_offset: placed.x + walk.x,
+        y_offset: placed.y + walk.y,
+    }
+}
+
+// A mark without a box: its own offsets, corrected.
+fn kept_at(walk: Walk, position: Position) -> Position
+    requires near { ⌜ Near 256 walk ⌝ }
+    requires light { ⌜ Light position ⌝ }
+    ensures { λ r. ⌜ r ≡ keptAt walk position ⌝ }
+{
+    Position {
+        x_advance: 0,
+        y_advance: 0,
+        x_offset: position.x_offset + walk.x,
+        y_offset: position.y_offset + walk.y,
+    }
+}
+
+fn with_run(walk: Walk, run: Extents) -> Walk
+    ensures { λ r. ⌜ r ≡ withRun walk run ⌝ }
+{
+    Walk { run, ..walk }
+}
