@@ -12,3 +12,5 @@ pub mod ByGroups
 pub mod Shares
 pub mod Fields
 pub mod Belonging
+pub mod Nears
+pub mod Stepping
