@@ -15,4 +15,6 @@ pub mod Components
 pub mod Walks
 pub mod Placements
 pub mod Route
+pub mod Bounded
+pub mod Steps
 pub mod ByGroups

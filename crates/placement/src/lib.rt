@@ -1,9 +1,13 @@
-// Placement of marks over any face.
+// Lines of signs over any face: classed, mapped, spaced, and their marks placed.
+mod bounded;
 mod classes;
+mod classing;
 mod components;
 mod direction;
 mod extents;
+mod groups;
 mod laws;
+mod line;
 mod mapping;
 mod marks;
 mod one_mark;
@@ -19,6 +23,13 @@ pub use direction::Direction;
 pub use extents::Extents;
 pub use extents::PlacedMark;
 pub use laws::placing_stands;
+pub use line::Classed;
+pub use line::MOST_SIGNS;
+pub use line::Mapped;
+pub use line::Placed;
+pub use line::Refused;
+pub use line::Spaced;
+pub use line::Written;
 pub use one_mark::position_one_mark;
 pub use position::Position;
 pub use refusal::Refusal;
