@@ -1,7 +1,7 @@
 // What a line may hold.
-ghost use lib.IntN.{negℤ, pos};
 ghost use mathlib.Core.Path.{_≡_};
-ghost use Rattle.placement.specs.Bounded.{bounded, boundedPosition, boundedRow, every, inside};
+ghost use Rattle.placement.specs.Bounded.{bounded, boundedPosition, boundedRow, inside};
+ghost use Rattle.faces.specs.Keys.{every};
 use crate::position::Position;
 use signs::SignRow;
 
@@ -11,15 +11,37 @@ const MOST_ADVANCE: i32 = 65535;
 
 const MOST_OFFSET: i32 = 40000000;
 
+fn has_bounded_x_advance(position: Position) -> bool
+    ensures { λ r. ⌜ r ≡ inside 65535 (position .«x_advance») ⌝ }
+{
+    -MOST_ADVANCE <= position.x_advance && position.x_advance <= MOST_ADVANCE
+}
+
+fn has_bounded_y_advance(position: Position) -> bool
+    ensures { λ r. ⌜ r ≡ inside 65535 (position .«y_advance») ⌝ }
+{
+    -MOST_ADVANCE <= position.y_advance && position.y_advance <= MOST_ADVANCE
+}
+
+fn has_bounded_x_offset(position: Position) -> bool
+    ensures { λ r. ⌜ r ≡ inside 40000000 (position .«x_offset») ⌝ }
+{
+    -MOST_OFFSET <= position.x_offset && position.x_offset <= MOST_OFFSET
+}
+
+fn has_bounded_y_offset(position: Position) -> bool
+    ensures { λ r. ⌜ r ≡ inside 40000000 (position .«y_offset») ⌝ }
+{
+    -MOST_OFFSET <= position.y_offset && position.y_offset <= MOST_OFFSET
+}
+
 fn is_bounded(position: Position) -> bool
     ensures { λ r. ⌜ r ≡ boundedPosition position ⌝ }
 {
-    -MOST_ADVANCE <= position.x_advance
-        && position.x_advance <= MOST_ADVANCE
-        && (-MOST_ADVANCE <= position.y_advance && position.y_advance <= MOST_ADVANCE)
-        && (-MOST_OFFSET <= position.x_offset
-            && position.x_offset <= MOST_OFFSET
-            && (-MOST_OFFSET <= position.y_offset && position.y_offset <= MOST_OFFSET))
+    has_bounded_x_advance(position)
+        && has_bounded_y_advance(position)
+        && has_bounded_x_offset(position)
+        && has_bounded_y_offset(position)
 }
 
 fn rows_bounded(rows: &[SignRow]) -> bool
