@@ -14,3 +14,8 @@ pub mod Fields
 pub mod Belonging
 pub mod Nears
 pub mod Stepping
+pub mod LeftOver
+pub mod MarksAhead
+pub mod Along
+pub mod Blank
+pub mod OneGroup

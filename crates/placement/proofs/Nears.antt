@@ -29,7 +29,7 @@ use Rattle.placement.specs.Room.{Within, Room, Spans, Light, Near}
 use Rattle.placement.specs.Placing.{leftEdge, widthOf, xOf, yOf, reached, unlifted, halfSunk, gapBefore, placed}
 use Rattle.placement.specs.OneMark.{gapOf}
 use Rattle.placement.specs.Components.{component, share}
-use Rattle.placement.specs.Walks.{Base, passed, toComponent, toRun, entered, settledWalk}
+use Rattle.placement.specs.Walks.{Base, walkFrom, passed, toComponent, toRun, entered, settledWalk}
 use Rattle.placement.proofs.Heights.{unlifted-within, half-sunk-within}
 use Rattle.placement.proofs.Belonging.{components-few}
 use Rattle.placement.proofs.Shares.{mul-within, quot-within, leftward-within}
@@ -143,3 +143,8 @@ near-settled f s n w c None g b a = near-wider n (n + 1) w (omega arith) a
 near-settled f s n w c (Some m) g b a =
     let z = near-wider n (n + 1) w (omega arith) a in
     record { x = z .x; y = z .y; around = z .around; run = spans-wider (40032768 + 66560 * n + 66560) (40032768 + 66560 * (n + 1)) _ (omega arith) (placed-spans (w .run) m b (gapOf f) c (s .direction) g (40032768 + 66560 * n) (a .run)) }
+
+-- the walk that a base begins
+pub near-start : (fw : Bool) (p : Position) (e : Extents) → Light p → Spans 40032768 e → Near 0 (walkFrom fw p e)
+near-start true p e l b = record { x = (omega (arith, ints, l .xAdvance), omega (arith, ints, l .xAdvance)); y = (omega (arith, ints, l .yAdvance), omega (arith, ints, l .yAdvance)); around = b; run = b }
+near-start false p e l b = record { x = (omega (arith, ints), omega (arith, ints)); y = (omega (arith, ints), omega (arith, ints)); around = b; run = b }

@@ -15,6 +15,7 @@ pub mod Components
 pub mod Walks
 pub mod Placements
 pub mod Route
+pub mod Marks
 pub mod Bounded
 pub mod Steps
 pub mod ByGroups

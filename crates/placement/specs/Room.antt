@@ -1,9 +1,12 @@
 -- Boxes that leave room for every sum of a placement in 32 bits.
-use Prim.Native.Nat.{ℕ, _+_, _*_}
+use Prim.Native.Nat.{ℕ, _+_, _*_, _≤_}
+use mathlib.Core.List.{List}
 use lib.IntN.{ℤ, pos, negℤ}
 use lib.Signed.{_≤ℤ_}
+use Rattle.std.specs.shelf.Lists.{All}
 use Rattle.std.specs.declared.option.Option.{Option}
 use Rattle.std.specs.declared.option.Option.the-variants.{Some, None}
+use Rattle.signs.specs.declared.SignRow.{SignRow}
 use Rattle.placement.specs.declared.extents.Extents.{Extents}
 use Rattle.placement.specs.declared.position.Position.{Position}
 use Rattle.placement.specs.declared.walk.Walk.{Walk}
@@ -43,3 +46,10 @@ pub record Near (n : ℕ) (w : Walk) : Type 0 where
   pub y : Within (65535 + 65535 * n) (w .y)
   pub around : Spans 40032768 (w .around)
   pub run : Spans (40032768 + 66560 * n) (w .run)
+
+-- Lists of what a line may hold.
+abbrev pub AllLight : List Position → Type 0
+AllLight ps = All Light ps
+
+abbrev pub AllGlyphs : List SignRow → Type 0
+AllGlyphs rs = All (λ (r : SignRow). r .code ≤ 65535) rs

@@ -43,8 +43,11 @@ abbrev pub began : Bool → ℤ → ℤ
 began true a = pos 0 -ℤ a
 began false a = pos 0
 
+abbrev pub walkFrom : Bool → Position → Extents → Walk
+walkFrom fw p e = record { x = began fw (p .«x_advance»); y = began fw (p .«y_advance»); component = 0; class = 0; around = e; run = e }
+
 abbrev pub start : Settings → Cell → Base → Walk
-start s c b = record { x = began (isForward (s .direction)) (c .position .«x_advance»); y = began (isForward (s .direction)) (c .position .«y_advance»); component = 0; class = 0; around = b .extents; run = b .extents }
+start s c b = walkFrom (isForward (s .direction)) (c .position) (b .extents)
 
 -- A mark of class 0 stays, and the marks after it make up for its advances.
 abbrev pub corrected : Bool → ℤ → ℤ → ℤ

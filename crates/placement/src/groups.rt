@@ -1,10 +1,15 @@
-// Placing the marks of a line, group by group: a base and the marks after it.
+// One group of a line: a base and the marks after it.
 ghost use lib.ListN.{length};
 ghost use mathlib.Core.List.{map};
 ghost use mathlib.Core.Path.{_≡_};
 ghost use Prim.Native.Nat.{_<_, _≤_};
-ghost use Rattle.placement.specs.Lines.{cells, positionsOf};
-ghost use Rattle.placement.specs.Placements.{group, placedLine, zeroed, zeroedPosition};
+ghost use Rattle.faces.specs.Boxes.{edgesOf};
+ghost use Rattle.placement.specs.Lines.{cell, cells, positionsOf};
+ghost use Rattle.placement.specs.Placements.{zeroed, zeroedPosition};
+ghost use Rattle.placement.specs.Room.{AllGlyphs, AllLight, Light, Near, Spans};
+ghost use Rattle.placement.specs.Walks.{Known, baseAt, walkFrom, walked};
+ghost use Rattle.signs.specs.Rows.{readRow};
+ghost use Rattle.signs.specs.Signs.{rowOf};
 use crate::extents::Extents;
 use crate::position::Position;
 use crate::settings::Settings;
@@ -15,8 +20,11 @@ use faces::Face;
 use signs::Sign;
 use signs::SignRow;
 
-// A nonspacing mark after a base without a box.
-fn zeroed_position(adjust: bool, position: Position) -> Position {
+// No advances; where the line adjusts, the offsets first go back by them.
+fn zeroed_position(adjust: bool, position: Position) -> Position
+    requires { ⌜ Light position ⌝ }
+    ensures { λ r. ⌜ r ≡ zeroedPosition adjust position ⌝ }
+{
     if adjust {
         Position {
             x_advance: 0,
@@ -33,37 +41,75 @@ fn zeroed_position(adjust: bool, position: Position) -> Position {
     }
 }
 
-fn zero_mark_advances(adjust: bool, rows: &[SignRow], positions: &mut [Position]) {
+// A mark after a base without a box: only nonspacing marks change.
+fn zeroed_mark(adjust: bool, row: SignRow, position: Position) -> Position
+    requires { ⌜ Light position ⌝ }
+    ensures { λ r. ⌜ r ≡ zeroed adjust (cell (readRow row) position) .position ⌝ }
+{
+    if Sign::read(row).is_nonspacing_mark() {
+        return zeroed_position(adjust, position);
+    }
+    position
+}
+
+pub(crate) fn zero_mark_advances(adjust: bool, rows: &[SignRow], positions: &mut [Position])
+    requires long { ⌜ length (now positions) ≡ length (now rows) ⌝ }
+    requires light { ⌜ AllLight (now positions) ⌝ }
+    ensures { λ _. ⌜ now (positions .exit) ≡ positionsOf (map (zeroed adjust) (cells (now (rows .entry)) (now (positions .entry)))) ⌝ }
+{
     for i in 0..rows.len() {
-        if Sign::read(rows[i]).is_nonspacing_mark() {
-            positions[i] = zeroed_position(adjust, positions[i]);
-        }
+        positions[i] = zeroed_mark(adjust, rows[i], positions[i]);
     }
 }
 
 // The box of a base: as wide as its advance across, moved up by its offset.
-fn base_box<F: Face>(face: &F, glyph: u16, bounds: Bounds, position: Position) -> Extents {
+pub(crate) fn base_box<F: Face>(
+    face: &F,
+    row: SignRow,
+    bounds: Bounds,
+    position: Position,
+) -> Extents
+    requires glyph { ⌜ row .code ≤ 65535 ⌝ }
+    requires light { ⌜ Light position ⌝ }
+    ensures value { λ r. ⌜ r ≡ baseAt (meaning (now (face .entry))) (cell row position) (edgesOf bounds) .extents ⌝ }
+    ensures spans { λ r. ⌜ Spans 40032768 r ⌝ }
+{
     Extents {
         left: 0,
-        width: face.across(glyph) as i32,
+        width: face.across(row.code as u16) as i32,
         bottom: bounds.bottom() as i32 + position.y_offset,
         top: bounds.top() as i32 + position.y_offset,
     }
 }
 
 // The walk that a base begins.
-fn walk_from(forward: bool, position: Position, extents: Extents) -> Walk {
-    Walk {
-        x: if forward { -position.x_advance } else { 0 },
-        y: if forward { -position.y_advance } else { 0 },
-        component: 0,
-        class: 0,
-        around: extents,
-        run: extents,
+pub(crate) fn walk_from(forward: bool, position: Position, extents: Extents) -> Walk
+    requires { ⌜ Light position ⌝ }
+    ensures { λ r. ⌜ r ≡ walkFrom forward position extents ⌝ }
+{
+    if forward {
+        Walk {
+            x: -position.x_advance,
+            y: -position.y_advance,
+            component: 0,
+            class: 0,
+            around: extents,
+            run: extents,
+        }
+    } else {
+        Walk {
+            x: 0,
+            y: 0,
+            component: 0,
+            class: 0,
+            around: extents,
+            run: extents,
+        }
     }
 }
 
-fn position_around<F: Face>(
+// The marks after a base with a box.
+pub(crate) fn position_along<F: Face>(
     face: &F,
     settings: Settings,
     base: Sign,
@@ -71,63 +117,20 @@ fn position_around<F: Face>(
     start: Walk,
     rows: &[SignRow],
     positions: &mut [Position],
-) {
+)
+    requires long { ⌜ length (now positions) ≡ length (now rows) ⌝ }
+    requires few { ⌜ length (now rows) ≤ 256 ⌝ }
+    requires glyphs { ⌜ AllGlyphs (now rows) ⌝ }
+    requires light { ⌜ AllLight (now positions) ⌝ }
+    requires base { ⌜ Spans 40032768 extents ⌝ }
+    requires known { ⌜ Known (record { row = rowOf base; extents = extents }) start ⌝ }
+    requires near { ⌜ Near 0 start ⌝ }
+    ensures { λ _. ⌜ now (positions .exit) ≡ positionsOf (walked (meaning (now (face .entry))) settings (record { row = rowOf base; extents = extents }) start (cells (now (rows .entry)) (now (positions .entry)))) ⌝ }
+{
     let mut walk = start;
     for i in 0..rows.len() {
         let next = step(face, settings, base, extents, walk, rows[i], positions[i]);
         positions[i] = next.position;
         walk = next.walk;
-    }
-}
-
-fn position_around_base<F: Face>(
-    face: &F,
-    settings: Settings,
-    rows: &[SignRow],
-    positions: &mut [Position],
-) {
-    let n = rows.len();
-    let base = Sign::read(rows[0]);
-    let glyph = rows[0].code as u16;
-    let Some(bounds) = face.bounds(glyph) else {
-        zero_mark_advances(settings.adjust, &rows[1..n], &mut positions[1..n]);
-        return;
-    };
-    let position = positions[0];
-    let extents = base_box(face, glyph, bounds, position);
-    let walk = walk_from(settings.direction.is_forward(), position, extents);
-    position_around(
-        face,
-        settings,
-        base,
-        extents,
-        walk,
-        &rows[1..n],
-        &mut positions[1..n],
-    );
-}
-
-// The first sign from a place on that is no mark, or the length.
-fn base_after(rows: &[SignRow], place: usize) -> usize {
-    for k in place..rows.len() {
-        if !Sign::read(rows[k]).is_mark() {
-            return k;
-        }
-    }
-    rows.len()
-}
-
-pub(crate) fn position_marks<F: Face>(
-    face: &F,
-    settings: Settings,
-    rows: &[SignRow],
-    positions: &mut [Position],
-) {
-    let n = rows.len();
-    let mut i = base_after(rows, 0);
-    while i < n {
-        let j = base_after(rows, i + 1);
-        position_around_base(face, settings, &rows[i..j], &mut positions[i..j]);
-        i = j;
     }
 }

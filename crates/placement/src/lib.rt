@@ -12,6 +12,7 @@ mod mapping;
 mod marks;
 mod one_mark;
 mod position;
+mod positioning;
 mod refusal;
 mod scripts;
 mod settings;
