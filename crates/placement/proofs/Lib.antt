@@ -19,3 +19,5 @@ pub mod MarksAhead
 pub mod Along
 pub mod Blank
 pub mod OneGroup
+pub mod ByParts
+pub mod BoundedLists
