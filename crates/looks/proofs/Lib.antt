@@ -1,0 +1,5 @@
+pub mod Edges
+pub mod Walks
+pub mod Runs
+pub mod Pens
+pub mod Parts
