@@ -175,9 +175,6 @@ module _ (f : FaceMeaning) (s : Settings) (b : Base) where
   after w [] = w
   after w (m ∷ ms) = after (step w m) ms
 
-  -- a probe
-  pub step-class : (w : Walk) (m : SignRow) → eqb (rowClass m) 0 ≡ false → step w m .class ≡ rowClass m
-  step-class w m h = next-class w (cellOf f s m) h
-
-  pub step-component : (w : Walk) (m : SignRow) → eqb (rowClass m) 0 ≡ false → step w m .component ≡ rowComponent (b .row) m
-  step-component w m h = next-component w (cellOf f s m) h
+  pub level-after : (d : Way) (ms : List SignRow) (w : Walk) → Level s b d w → Level s b d (after w ms)
+  level-after d [] w l = l
+  level-after d (m ∷ ms) w l = level-after d ms (step w m) (next-level w (cellOf f s m) d l)

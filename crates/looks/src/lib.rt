@@ -2,3 +2,4 @@
 mod laws;
 
 pub use laws::lines_stand;
+pub use laws::look_stands;
