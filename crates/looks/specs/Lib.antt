@@ -8,3 +8,4 @@ pub mod Drawing
 pub mod Shown
 pub mod Promise
 pub mod Laws
+pub mod Worked
