@@ -4,7 +4,7 @@ use mathlib.Core.Bool.{Bool, true, false, cond}
 use mathlib.Core.List.{List, [], _∷_, _++_}
 use mathlib.Core.Logic.{_⊎_, inl, inr, ⊎-elim}
 use native.Mathlib.Omega.{arith}
-use lib.IntN.{ℤ, pos, _+ℤ_}
+use lib.IntN.{ℤ, pos}
 use lib.Signed.{_≤ℤ_}
 use lib.ListN.{length}
 use Rattle.std.proofs.shelf.Lists.{append-assoc, length-append}
@@ -13,19 +13,22 @@ use Rattle.std.proofs.shelf.Tests.{cases-bool}
 use Rattle.std.specs.declared.option.Option.{Option}
 use Rattle.std.specs.declared.option.Option.the-variants.{Some, None}
 use Rattle.signs.specs.declared.SignRow.{SignRow}
+use Rattle.signs.specs.Rows.{isMark}
+use Rattle.signs.proofs.Reclassing.{reclassing-stands}
 use Rattle.faces.specs.Meaning.{FaceMeaning, Edges, Keeps}
 use Rattle.looks.specs.Signs.{isMarkRow, glyphOf}
 use Rattle.looks.specs.Groups.{AreMarks, Marked}
 use Rattle.looks.specs.Measured.{measure}
 use Rattle.looks.specs.Runs.{sameRun}
 use Rattle.looks.specs.Steps.{heightIf, heights}
-use Rattle.looks.specs.Laws.{NeverNegative, Covers, LooksStand}
+use Rattle.looks.specs.Laws.{NeverNegative, Covers, MarksAsRead, LooksStand}
+use Rattle.looks.proofs.Edges.{inked}
 use Rattle.looks.proofs.Promised.{looks-keep}
 
 module _ (f : FaceMeaning) (u : Keeps f) where
   measured-height : (m : SignRow) (o : Option Edges) → measure f m ≡ o → pos 0 ≤ℤ heightIf o
   measured-height m None e = omega (arith, ints)
-  measured-height m (Some b) e = let h = u .boxes (glyphOf f m) b e .bottomTop in omega (arith, ints)
+  measured-height m (Some b) e = let h = u .boxes (glyphOf f m) b (inked _ b e) .bottomTop in omega (arith, ints)
 
   stepped-height : (m : SignRow) (t : Bool) → pos 0 ≤ℤ heightIf (cond t (measure f m) None)
   stepped-height m true = measured-height m (measure f m) refl
@@ -78,5 +81,8 @@ unfolding marked-by
 covers before mark rest hm =
     ⊎-elim inl (λ k. inr (marked-by before mark rest hm k, sym (ap length (k .is) ∙ length-append (k .before) (k .base ∷ k .marks)), refl)) (last-base before)
 
+marks-as-read : MarksAsRead
+marks-as-read r = ap isMark (reclassing-stands r .read) ∙ reclassing-stands r .keepsMarks
+
 pub looks-stand : LooksStand
-looks-stand = record { promise = looks-keep; neverNegative = never-negative; covers = covers }
+looks-stand = record { promise = looks-keep; neverNegative = never-negative; covers = covers; marksAsRead = marks-as-read }

@@ -1,6 +1,6 @@
 -- One mark: the edges that face along its run, and its sides.
 use Prim.Native.Nat.{ℕ}
-use mathlib.Core.Path.{_≡_, refl, sym, ap, _∙_}
+use mathlib.Core.Path.{_≡_, refl, ap}
 use native.Mathlib.Omega.{arith}
 use lib.IntN.{ℤ, pos, negℤ, _+ℤ_, _-ℤ_}
 use lib.Signed.{_≤ℤ_}
@@ -15,9 +15,14 @@ use Rattle.placement.specs.declared.Direction.{Direction}
 use Rattle.placement.specs.declared.Extents.{Extents}
 use Rattle.placement.specs.Classes.{way, align}
 use Rattle.placement.specs.Placing.{gapBefore, reached, placed}
-use Rattle.placement.specs.Kept.{Kept, lies, Even}
+use Rattle.placement.specs.Kept.{Kept, Even}
+use Rattle.placement.specs.Walks.{ink}
 use Rattle.placement.proofs.Keeping.{placed-marks-keep}
 use Rattle.looks.specs.Shares.{Sides}
+
+-- a measured mark has a box
+pub inked : (a : Option Edges) (e : Edges) → ink a ≡ Some e → a ≡ Some e
+inked a e h = h
 
 -- the edge of a run's box that faces its next mark
 abbrev pub front : Way → Extents → ℤ

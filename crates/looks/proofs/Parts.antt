@@ -19,7 +19,7 @@ use Rattle.placement.specs.Text.{isTextLtr}
 use Rattle.placement.specs.Classes.{way}
 use Rattle.placement.specs.OneMark.{gapOf}
 use Rattle.placement.specs.Placing.{placed}
-use Rattle.placement.specs.Walks.{Base, toComponent, toRun, settledWalk}
+use Rattle.placement.specs.Walks.{Base, toComponent, settledWalk}
 use Rattle.placement.specs.Route.{cellOf}
 use Rattle.looks.specs.Signs.{rowClass, rowComponent}
 use Rattle.looks.specs.Measured.{measure}

@@ -25,7 +25,7 @@ use Rattle.placement.specs.Placing.{placed}
 use Rattle.placement.specs.Walks.{Base}
 use Rattle.placement.specs.Route.{cellOf}
 use Rattle.looks.specs.Signs.{isMarkRow, rowClass, rowComponent}
-use Rattle.looks.specs.Groups.{AreMarks, InGroup, Marked, basePlace, placeAfter, markPlace}
+use Rattle.looks.specs.Groups.{AreMarks, InGroup, basePlace, placeAfter, markPlace}
 use Rattle.looks.specs.Runs.{alike, withinRun}
 use Rattle.looks.specs.Steps.{gaps, heights}
 use Rattle.looks.specs.Shares.{Sides, anyBelongs, componentSides}
@@ -35,7 +35,7 @@ use Rattle.looks.specs.Promise.{ClearOfBase, ClearOfMarks, InTheMiddle, LooksK
 use Rattle.looks.proofs.Edges.{front, near, far, centres, sidesOf}
 use Rattle.looks.proofs.Walks.{flip, next-level, step, after, level-after}
 use Rattle.looks.proofs.Runs.{way-zero, into, up, step-far, edge, reached, stepped-here, reach}
-use Rattle.looks.proofs.Parts.{any-last, own, Holds, into-sides, into-run, holds-after}
+use Rattle.looks.proofs.Parts.{any-last, own, into-sides, into-run, holds-after}
 use Rattle.looks.proofs.Lines.{theBase, theStart, no-offsets, after-append}
 use Rattle.looks.proofs.Stands.{stands}
 use Rattle.looks.proofs.Present.{as-many, shows}

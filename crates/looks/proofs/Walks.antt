@@ -6,7 +6,6 @@ use mathlib.Core.List.{List, [], _∷_}
 use mathlib.Core.Logic.{⊎-elim}
 use native.Mathlib.Omega.{arith}
 use lib.Dec.{eqb}
-use lib.IntN.{ℤ}
 use Rattle.std.proofs.shelf.Tests.{cases-bool, eqb-true, and-from, and-left, and-right, cond-true, cond-false}
 use Rattle.std.proofs.shelf.Ways.{tells}
 use Rattle.std.specs.declared.option.Option.{Option}
@@ -25,8 +24,6 @@ use Rattle.placement.specs.Lines.{Cell}
 use Rattle.placement.specs.Components.{component, share}
 use Rattle.placement.specs.Walks.{Base, ink, passed, toComponent, toRun, settledWalk, settled, next, out}
 use Rattle.placement.specs.Route.{cellOf}
-use Rattle.looks.specs.Signs.{rowClass, rowComponent}
-use Rattle.looks.specs.Measured.{measure}
 use Rattle.looks.proofs.Edges.{front}
 
 pub flip : (c : ℕ) → eqb c 0 ≡ false → eqb 0 c ≡ false

@@ -1,5 +1,5 @@
--- What makes the promise worth its words: that boxes which it keeps apart do not overlap, and that it speaks of each mark
--- that has a base before it.
+-- What makes the promise worth its words: that boxes which it keeps apart do not overlap, that it speaks of each mark that
+-- has a base before it, and that its marks are those that a book's rows are read as.
 use mathlib.Core.Path.{_≡_}
 use mathlib.Core.Bool.{true}
 use mathlib.Core.List.{List, _∷_, _++_}
@@ -8,6 +8,7 @@ use lib.IntN.{pos, _+ℤ_}
 use lib.Signed.{_≤ℤ_}
 use lib.ListN.{length}
 use Rattle.signs.specs.declared.SignRow.{SignRow}
+use Rattle.signs.specs.Rows.{isMark, readRow}
 use Rattle.faces.specs.Meaning.{FaceMeaning, Keeps}
 use Rattle.looks.specs.Signs.{isMarkRow}
 use Rattle.looks.specs.Groups.{AreMarks, Marked, markPlace}
@@ -23,7 +24,12 @@ abbrev pub Covers : Type 0
 Covers = (before : List SignRow) (mark : SignRow) (after : List SignRow) → isMarkRow mark ≡ true
     → AreMarks before ⊎ ((c : Marked (before ++ mark ∷ after)) × (markPlace c ≡ length before) × (c .mark ≡ mark))
 
+-- Classing makes no mark and unmakes none.
+abbrev pub MarksAsRead : Type 0
+MarksAsRead = (r : SignRow) → isMarkRow r ≡ isMark (readRow r)
+
 pub record LooksStand : Type 0 where
   pub promise : LooksKeep
   pub neverNegative : NeverNegative
   pub covers : Covers
+  pub marksAsRead : MarksAsRead

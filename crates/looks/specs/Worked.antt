@@ -2,10 +2,9 @@
 use Prim.Native.Nat.{ℕ, _+_, _*_}
 use mathlib.Core.Path.{_≡_}
 use mathlib.Core.Bool.{Bool, true, false, cond}
-use mathlib.Core.List.{List, [], _∷_}
+use mathlib.Core.List.{[], _∷_}
 use lib.Dec.{eqb}
 use lib.IntN.{ℤ, pos, negℤ}
-use Rattle.std.specs.declared.option.Option.{Option}
 use Rattle.std.specs.declared.option.Option.the-variants.{Some, None}
 use Rattle.signs.specs.declared.SignRow.{SignRow}
 use Rattle.signs.specs.Rows.{rowFrom}
@@ -16,7 +15,7 @@ use Rattle.placement.specs.declared.Settings.{Settings}
 use Rattle.looks.specs.Runs.{sameRun}
 use Rattle.looks.specs.Steps.{gaps, heights}
 use Rattle.looks.specs.Shares.{Sides, componentSides}
-use Rattle.looks.specs.Drawing.{Item, item, look}
+use Rattle.looks.specs.Drawing.{item, look}
 
 -- glyph 1 is the letter, 2 the bar, 3 the space, which has no box
 abbrev pub face : FaceMeaning
