@@ -124,45 +124,48 @@ module _ (f : FaceMeaning) (s : Settings) (b : Base) where
   settled-keeps w c (Some m) = (refl, refl, refl, refl, refl)
 
   module _ (w : Walk) (c : Cell) where
-    -- the walk as it enters the run of a mark
-    abbrev into : Walk
-    into = enter s b (class (c .row)) (component (b .row) (c .row)) w
+    abbrev n : ℕ
+    n = class (c .row)
 
-    pub next-zero : eqb (class (c .row)) 0 ≡ true → next f s b w c ≡ passed (isForward (s .direction)) w (c .position)
+    abbrev k : ℕ
+    k = component (b .row) (c .row)
+
+    abbrev box : Option Edges
+    box = ink (f .bounds (c .row .code))
+
+    pub next-zero : eqb n 0 ≡ true → next f s b w c ≡ passed (isForward (s .direction)) w (c .position)
     next-zero h = rw h
 
-    pub next-other : eqb (class (c .row)) 0 ≡ false → next f s b w c ≡ settledWalk f s into (class (c .row)) (ink (f .bounds (c .row .code)))
+    pub next-other : eqb n 0 ≡ false → next f s b w c ≡ settledWalk f s (enter s b n k w) n box
     next-other h = rw h
 
-    pub out-zero : eqb (class (c .row)) 0 ≡ true → out f s b w c ≡ c
+    pub out-zero : eqb n 0 ≡ true → out f s b w c ≡ c
     out-zero h = rw h
 
-    pub out-other : eqb (class (c .row)) 0 ≡ false → out f s b w c .position ≡ settled f s into (class (c .row)) (ink (f .bounds (c .row .code))) (c .position)
+    pub out-other : eqb n 0 ≡ false → out f s b w c .position ≡ settled f s (enter s b n k w) n box (c .position)
     out-other h = rw h
 
-    keeps : (settledWalk f s into (class (c .row)) (ink (f .bounds (c .row .code))) .x ≡ into .x) × (settledWalk f s into (class (c .row)) (ink (f .bounds (c .row .code))) .y ≡ into .y) × (settledWalk f s into (class (c .row)) (ink (f .bounds (c .row .code))) .component ≡ into .component) × (settledWalk f s into (class (c .row)) (ink (f .bounds (c .row .code))) .class ≡ into .class) × (settledWalk f s into (class (c .row)) (ink (f .bounds (c .row .code))) .around ≡ into .around)
-    keeps = settled-keeps into (class (c .row)) (ink (f .bounds (c .row .code)))
-
-    pub next-xy : eqb (class (c .row)) 0 ≡ false → (next f s b w c .x ≡ w .x) × (next f s b w c .y ≡ w .y)
+    pub next-xy : eqb n 0 ≡ false → (next f s b w c .x ≡ w .x) × (next f s b w c .y ≡ w .y)
     next-xy h =
         let e = next-other h in
-        (ap (λ v. v .x) e ∙ keeps .0 ∙ enter-x s b (class (c .row)) (component (b .row) (c .row)) w, ap (λ v. v .y) e ∙ keeps .1 ∙ enter-y s b (class (c .row)) (component (b .row) (c .row)) w)
+        let kept = settled-keeps (enter s b n k w) n box in
+        (ap (λ v. v .x) e ∙ kept .0 ∙ enter-x s b n k w, ap (λ v. v .y) e ∙ kept .1 ∙ enter-y s b n k w)
 
-    pub next-component : eqb (class (c .row)) 0 ≡ false → next f s b w c .component ≡ component (b .row) (c .row)
-    next-component h = ap (λ v. v .component) (next-other h) ∙ keeps .2 ∙ enter-component s b (class (c .row)) (component (b .row) (c .row)) w
+    pub next-component : eqb n 0 ≡ false → next f s b w c .component ≡ k
+    next-component h = ap (λ v. v .component) (next-other h) ∙ settled-keeps (enter s b n k w) n box .2 ∙ enter-component s b n k w
 
-    pub next-class : eqb (class (c .row)) 0 ≡ false → next f s b w c .class ≡ class (c .row)
-    next-class h = ap (λ v. v .class) (next-other h) ∙ keeps .3 ∙ enter-class s b (class (c .row)) (component (b .row) (c .row)) w
+    pub next-class : eqb n 0 ≡ false → next f s b w c .class ≡ n
+    next-class h = ap (λ v. v .class) (next-other h) ∙ settled-keeps (enter s b n k w) n box .3 ∙ enter-class s b n k w
 
-    pub next-around : eqb (class (c .row)) 0 ≡ false → next f s b w c .around ≡ into .around
-    next-around h = ap (λ v. v .around) (next-other h) ∙ keeps .4
+    pub next-around : eqb n 0 ≡ false → next f s b w c .around ≡ enter s b n k w .around
+    next-around h = ap (λ v. v .around) (next-other h) ∙ settled-keeps (enter s b n k w) n box .4
 
     pub next-level : (d : Way) → Level s b d w → Level s b d (next f s b w c)
     next-level d l =
         ⊎-elim
         (λ q. ap (λ v. front d (v .around)) (next-zero q) ∙ l)
-        (λ q. ap (front d) (next-around q) ∙ enter-level s b (class (c .row)) (component (b .row) (c .row)) w d l)
-        (cases-bool (eqb (class (c .row)) 0))
+        (λ q. ap (front d) (next-around q) ∙ enter-level s b n k w d l)
+        (cases-bool (eqb n 0))
 
   abbrev pub step : Walk → SignRow → Walk
   step w m = next f s b w (cellOf f s m)
