@@ -2,19 +2,20 @@
 use Prim.Native.Nat.{ℕ, suc, _+_, _<_, _≤_}
 use mathlib.Core.Path.{_≡_, refl, sym, ap, subst, _∙_}
 use mathlib.Core.Bool.{Bool, true, false, cond}
-use mathlib.Core.List.{List, [], _∷_, _++_, reverse}
+use mathlib.Core.List.{List, [], _∷_, _++_, map, reverse}
 use native.Mathlib.Omega.{arith}
 use lib.Dec.{eqb}
 use lib.IntN.{ℤ, pos, _+ℤ_}
 use lib.ListN.{length}
+use Rattle.std.specs.Iters.{counting}
 use Rattle.std.specs.shelf.Lists.{All}
-use Rattle.std.proofs.shelf.Lists.{reverse-append, append-assoc, length-reverse}
+use Rattle.std.proofs.shelf.Lists.{reverse-append, append-assoc, map-append, length-reverse}
 use Rattle.std.proofs.shelf.Signed.{ints}
 use Rattle.std.proofs.shelf.Tests.{ne-eqb, eq-eqb, cond-true, cond-false}
 use Rattle.placement.specs.declared.Settings.{Settings}
 use Rattle.placement.specs.Directions.{isForward}
 use Rattle.placement.specs.Lines.{Cell}
-use Rattle.looks.specs.Drawing.{Item, numbered, penned, drawn}
+use Rattle.looks.specs.Drawing.{Item, numbered, penned, drawn, turns}
 use Rattle.looks.specs.Shown.{itemOf}
 
 -- how far cells move the pen
@@ -147,3 +148,28 @@ drawn-length s cs =
     let ns : List (ℕ × Cell) = numbered 0 cs in
     let P : Bool → Type 0 = λ t. length (cond t ns (reverse ns)) ≡ length cs in
     penned-length (pos 0) (pos 0) (cond (isForward (s .direction)) ns (reverse ns)) ∙ elim (isForward (s .direction)) as P [ true ↦ numbered-length 0 cs | false ↦ length-reverse ns ∙ numbered-length 0 cs ]
+
+-- the places, in their turn
+map-reverse : {X Y : Type 0} (g : X → Y) (xs : List X) → map g (reverse xs) ≡ reverse (map g xs)
+map-reverse g [] = refl
+map-reverse g (x ∷ xs) = ap (map g) (reverse-cons x xs) ∙ map-append g (reverse xs) (x ∷ []) ∙ ap (λ l. l ++ g x ∷ []) (map-reverse g xs) ∙ sym (reverse-cons (g x) (map g xs))
+
+abbrev placesOf : List (ℕ × Cell) → List ℕ
+placesOf ns = map (λ (n : ℕ × Cell). n .0) ns
+
+penned-places : (x y : ℤ) (ns : List (ℕ × Cell)) → map (λ (i : Item). i .place) (penned x y ns) ≡ placesOf ns
+penned-places x y [] = refl
+penned-places x y (n ∷ ns) = ap (λ l. n .0 ∷ l) (penned-places (x +ℤ n .1 .position .«x_advance») (y +ℤ n .1 .position .«y_advance») ns)
+
+numbered-places : (i : ℕ) (cs : List Cell) → placesOf (numbered i cs) ≡ counting i (length cs)
+numbered-places i [] = refl
+numbered-places i (c ∷ cs) =
+    let e : suc i ≡ i + 1 = omega arith in
+    ap (λ l. i ∷ l) (numbered-places (suc i) cs ∙ ap (λ k. counting k (length cs)) e)
+
+pub drawn-places : (s : Settings) (cs : List Cell) → map (λ (i : Item). i .place) (drawn s cs) ≡ turns (isForward (s .direction)) (length cs)
+drawn-places s cs =
+    let ns : List (ℕ × Cell) = numbered 0 cs in
+    let P : Bool → Type 0 = λ t. placesOf (cond t ns (reverse ns)) ≡ turns t (length cs) in
+    penned-places (pos 0) (pos 0) (cond (isForward (s .direction)) ns (reverse ns))
+    ∙ elim (isForward (s .direction)) as P [ true ↦ numbered-places 0 cs | false ↦ map-reverse (λ (n : ℕ × Cell). n .0) ns ∙ ap reverse (numbered-places 0 cs) ]

@@ -9,14 +9,15 @@ use Rattle.signs.specs.declared.SignRow.{SignRow}
 use Rattle.signs.specs.Reclassing.{reclassed}
 use Rattle.faces.specs.Meaning.{FaceMeaning}
 use Rattle.placement.specs.declared.Settings.{Settings}
+use Rattle.placement.specs.Directions.{isForward}
 use Rattle.placement.specs.Lines.{Cell, rowsOf}
 use Rattle.placement.specs.Mapped.{mapRow}
 use Rattle.placement.specs.Route.{route}
 use Rattle.placement.proofs.ByGroups.{as-long, in-order}
-use Rattle.looks.specs.Drawing.{look, drawn}
+use Rattle.looks.specs.Drawing.{look, drawn, turns}
 use Rattle.looks.specs.Shown.{itemOf}
-use Rattle.looks.specs.Promise.{Shows}
-use Rattle.looks.proofs.Pens.{drawn-at, drawn-length}
+use Rattle.looks.specs.Promise.{InTurn, Shows}
+use Rattle.looks.proofs.Pens.{drawn-at, drawn-length, drawn-places}
 
 no-more : {X : Type 0} {y : X} {ys : List X} → [] ≡ y ∷ ys → ⊥
 no-more e = let z : _≡_ {A = ℕ} 0 1 = cc in omega arith
@@ -45,6 +46,9 @@ cut-at (c ∷ cs) (x ∷ us) u vs e = cut-more c x cs us u (cut-at cs us u vs (c
 module _ (f : FaceMeaning) (s : Settings) where
   pub as-many : (rows : List SignRow) → length (look f s rows) ≡ length rows
   as-many rows = drawn-length s (route f s rows) ∙ as-long f s rows
+
+  pub in-turn : (rows : List SignRow) → InTurn f s rows (look f s rows)
+  in-turn rows = drawn-places s (route f s rows) ∙ ap (turns (isForward (s .direction))) (as-long f s rows)
 
   shown-at : (cs : List Cell) (us : List SignRow) (u : SignRow) (n : ℕ) → length us ≡ n → Cut cs us u → (itemOf n (drawn s cs) .place ≡ n) × (itemOf n (drawn s cs) .glyph ≡ u .code)
   shown-at cs us u n en k =

@@ -38,7 +38,7 @@ use Rattle.looks.proofs.Runs.{way-zero, into, up, step-far, edge, reached, ste
 use Rattle.looks.proofs.Parts.{any-last, own, into-sides, into-run, holds-after}
 use Rattle.looks.proofs.Lines.{theBase, theStart, no-offsets, after-append}
 use Rattle.looks.proofs.Stands.{stands}
-use Rattle.looks.proofs.Present.{as-many, shows}
+use Rattle.looks.proofs.Present.{as-many, in-turn, shows}
 
 -- from edges along the run to drawn boxes
 from-base : (d : Way) (e : Extents) (bb mb : Edges) (i j : Item) (y z need : ℤ) → e .top ≡ bb .top +ℤ z → e .bottom ≡ bb .bottom +ℤ z → z ≡ pos 0 → j .y ≡ i .y +ℤ y → (front d e +ℤ need) ≤ℤ near d y mb → need ≤ℤ apart d (moved i bb) (moved j mb)
@@ -120,6 +120,7 @@ module _ (f : FaceMeaning) (s : Settings) (rows : List SignRow) where
 pub looks-keep : LooksKeep
 looks-keep f s rows = record {
   asMany = as-many f s rows;
+  inTurn = in-turn f s rows;
   shows = shows f s rows;
   clearOfBase = clear-of-base f s rows;
   clearOfMarks = clear-of-marks f s rows;

@@ -1,9 +1,10 @@
 -- What is drawn of a line: for each sign an item, which says where on the panel its glyph goes. The pen starts at 0, 0; it
 -- draws each sign at itself moved by the sign's offsets, and then goes on by the sign's advances.
 use Prim.Native.Nat.{ℕ, suc}
-use mathlib.Core.Bool.{cond}
+use mathlib.Core.Bool.{Bool, cond}
 use mathlib.Core.List.{List, [], _∷_, reverse}
 use lib.IntN.{ℤ, pos, _+ℤ_}
+use Rattle.std.specs.Iters.{counting}
 use Rattle.signs.specs.declared.SignRow.{SignRow}
 use Rattle.faces.specs.Meaning.{FaceMeaning}
 use Rattle.placement.specs.declared.Settings.{Settings}
@@ -34,6 +35,10 @@ penned x y (n ∷ ns) =
 -- From the first place up in forward directions, from the last one down otherwise.
 abbrev pub drawn : Settings → List Cell → List Item
 drawn s cs = penned (pos 0) (pos 0) (cond (isForward (s .direction)) (numbered 0 cs) (reverse (numbered 0 cs)))
+
+-- The places of n signs, in the order in which the pen comes to them.
+abbrev pub turns : Bool → ℕ → List ℕ
+turns forward n = cond forward (counting 0 n) (reverse (counting 0 n))
 
 -- A look: the book's rows go their route, and what comes of it is drawn.
 abbrev pub look : FaceMeaning → Settings → List SignRow → List Item

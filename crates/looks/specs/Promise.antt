@@ -3,7 +3,7 @@
 -- component; and each sign of the book is shown, by its own glyph, at its own place.
 use mathlib.Core.Path.{_≡_}
 use mathlib.Core.Bool.{true, false}
-use mathlib.Core.List.{List, _∷_, _++_}
+use mathlib.Core.List.{List, _∷_, _++_, map}
 use lib.Dec.{eqb}
 use lib.IntN.{pos, _+ℤ_}
 use lib.Signed.{_≤ℤ_}
@@ -14,6 +14,7 @@ use Rattle.faces.specs.Meaning.{FaceMeaning, Edges}
 use Rattle.placement.specs.declared.Settings.{Settings}
 use Rattle.placement.specs.declared.classes.Way.{Way}
 use Rattle.placement.specs.declared.classes.Align.the-variants.{Centred}
+use Rattle.placement.specs.Directions.{isForward}
 use Rattle.placement.specs.Classes.{way, align}
 use Rattle.placement.specs.Kept.{Even}
 use Rattle.looks.specs.Signs.{rowClass, glyphOf}
@@ -22,11 +23,15 @@ use Rattle.looks.specs.Runs.{sameRun}
 use Rattle.looks.specs.Measured.{measure, measureBase}
 use Rattle.looks.specs.Steps.{gaps, heights}
 use Rattle.looks.specs.Shares.{componentSides}
-use Rattle.looks.specs.Drawing.{Item, look}
+use Rattle.looks.specs.Drawing.{Item, turns, look}
 use Rattle.looks.specs.Shown.{itemOf, moved, apart, leftRoom, rightRoom}
 
 module _ (f : FaceMeaning) (s : Settings) (rows : List SignRow) (items : List Item) where
-  -- Each sign has one item, of its place and with its glyph.
+  -- Each place has one item, and the items come in their turn.
+  abbrev pub InTurn : Type 0
+  InTurn = map (λ (i : Item). i .place) items ≡ turns (isForward (s .direction)) (length rows)
+
+  -- The item of a sign's place shows its glyph.
   abbrev pub Shows : Type 0
   Shows = (before : List SignRow) (sign : SignRow) (after : List SignRow) → rows ≡ before ++ sign ∷ after
       → (itemOf (length before) items .place ≡ length before) × (itemOf (length before) items .glyph ≡ glyphOf f sign)
@@ -54,6 +59,7 @@ module _ (f : FaceMeaning) (s : Settings) (rows : List SignRow) (items : List It
 
   pub record Promise : Type 0 where
     pub asMany : length items ≡ length rows
+    pub inTurn : InTurn
     pub shows : Shows
     pub clearOfBase : ClearOfBase
     pub clearOfMarks : ClearOfMarks
