@@ -1,6 +1,6 @@
--- The promise of a drawing. Where a bar is drawn is all that tells closed from locked, so every mark that is measured
--- stands clear of its base and of the marks of its run before it, on its own side, and a centred one in the middle of its
--- component; and each sign of the book is shown, by its own glyph, at its own place.
+-- The promise of a drawing. Where a bar is drawn is all that tells closed from locked, so on a measured base each measured
+-- mark above or below stands clear of the base and of the marks of its run before it, and each centred one in the middle of
+-- its component. And each sign of the book is shown, once and by its own glyph.
 use mathlib.Core.Path.{_≡_}
 use mathlib.Core.Bool.{true, false}
 use mathlib.Core.List.{List, _∷_, _++_, map}
