@@ -2,3 +2,5 @@
 mod laws;
 
 pub use laws::lines_stand;
+pub use laws::look_stands;
+pub use laws::worked_looks_stand;

@@ -22,7 +22,7 @@ use Rattle.placement.specs.Lines.{Cell, rowsOf}
 use Rattle.placement.specs.Mapped.{mapRow}
 use Rattle.placement.specs.Walks.{Base, ground, next, out, walked}
 use Rattle.placement.specs.Placements.{Standing, Leading, Bare, Along, zeroed, opened, outBy, nextBy, flow, placedLine, around}
-use Rattle.placement.specs.Route.{cellOf, route}
+use Rattle.placement.specs.Route.{cellOf}
 use Rattle.placement.specs.ByGroups.{IsMark, Opens, OneGroup, LeadingMarks, CutLines, Begins, Seam, AsLong, InOrder, LinesStand}
 
 module _ (f : FaceMeaning) (s : Settings) where

@@ -1,0 +1,10 @@
+pub mod Edges
+pub mod Walks
+pub mod Runs
+pub mod Pens
+pub mod Parts
+pub mod Lines
+pub mod Present
+pub mod Stands
+pub mod Promised
+pub mod Beside

@@ -1,0 +1,5 @@
+use Rattle.looks.proofs.Beside.{looks-stand}
+use Rattle.looks.proofs.laws.look_stands.Needs as need
+
+pub returns : need.returns
+returns c = looks-stand

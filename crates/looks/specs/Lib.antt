@@ -1,0 +1,11 @@
+pub mod Signs
+pub mod Groups
+pub mod Runs
+pub mod Measured
+pub mod Steps
+pub mod Shares
+pub mod Drawing
+pub mod Shown
+pub mod Promise
+pub mod Laws
+pub mod Worked
