@@ -23,7 +23,7 @@ use Rattle.placement.specs.declared.walk.Walk.{Walk}
 use Rattle.placement.specs.Directions.{isForward, isHorizontal}
 use Rattle.placement.specs.Lines.{Cell}
 use Rattle.placement.specs.Mapped.{mapRow, mapPosition}
-use Rattle.placement.specs.Spaces.{respaced, spacePosition}
+use Rattle.placement.specs.Spaces.{halvedAlong, ownAdvance, respaced, spacePosition, withOwn}
 use Rattle.placement.specs.Walks.{Base, baseAt, corrected, start, settled, next, out, walked}
 use Rattle.placement.specs.Placements.{Standing, Leading, Along, opened, outBy, nextBy, flow, placedLine}
 use Rattle.placement.specs.Route.{cellOf, route}
@@ -39,9 +39,25 @@ use Rattle.looks.proofs.Runs.{into}
 abbrev NoOffsets : Position → Type 0
 NoOffsets p = (p .«x_offset» ≡ pos 0) × (p .«y_offset» ≡ pos 0)
 
+own-still : (h : Bool) (o : Option ℤ) (p : Position) → NoOffsets p → NoOffsets (withOwn h o p)
+own-still h None p n = n
+own-still true (Some a) p n = n
+own-still false (Some a) p n = n
+
+halved-still : (h : Bool) (p : Position) → NoOffsets p → NoOffsets (halvedAlong h p)
+halved-still true p n = n
+halved-still false p n = n
+
+mapped-still : (f : FaceMeaning) (h : Bool) (r : SignRow) → NoOffsets (mapPosition f h r)
+mapped-still f true r = (refl, refl)
+mapped-still f false r = (refl, refl)
+
 spaced-still : (f : FaceMeaning) (h : Bool) (r q : SignRow) → NoOffsets (spacePosition f h q (mapPosition f h r))
-spaced-still f true r q = cond-both (isSpace q && not (isLigated q)) (respaced f true (spaceType q) (mapPosition f true r)) (mapPosition f true r) NoOffsets (λ _. (refl, refl)) (λ _. (refl, refl))
-spaced-still f false r q = cond-both (isSpace q && not (isLigated q)) (respaced f false (spaceType q) (mapPosition f false r)) (mapPosition f false r) NoOffsets (λ _. (refl, refl)) (λ _. (refl, refl))
+spaced-still f h r q =
+    let n = mapped-still f h r in
+    cond-both (isSpace q && not (isLigated q)) (respaced f h (spaceType q) (mapPosition f h r)) (mapPosition f h r) NoOffsets
+    (λ _. cond-both (eqb (spaceType q) 21) _ _ NoOffsets (λ _. halved-still h _ n) (λ _. own-still h (ownAdvance f h (spaceType q)) _ n))
+    (λ _. n)
 
 pub no-offsets : (f : FaceMeaning) (s : Settings) (r : SignRow) → (cellOf f s r .position .«x_offset» ≡ pos 0) × (cellOf f s r .position .«y_offset» ≡ pos 0)
 no-offsets f s r = spaced-still f (isHorizontal (s .direction)) (reclassed r) (mapRow f (reclassed r))

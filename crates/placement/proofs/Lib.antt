@@ -21,3 +21,4 @@ pub mod Blank
 pub mod OneGroup
 pub mod ByParts
 pub mod BoundedLists
+pub mod Routing

@@ -44,3 +44,7 @@ placeAnswer l rows positions =
     cond (not (fits (l .len) (length rows) (length positions))) (Err (record { line = l; refusal = Length }))
     (cond (not (bounded rows positions)) (Err (record { line = l; refusal = OutOfBounds }))
     (Ok (record { len = l .len; settings = l .settings })))
+
+-- The whole route refuses only lengths: what a face answers is always within the bounds of a line.
+abbrev pub routeAnswer : Settings → ℕ → ℕ → Result Placed Refusal
+routeAnswer s rows positions = cond (fits rows rows positions) (Ok (record { len = rows; settings = s })) (Err Length)

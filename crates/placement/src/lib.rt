@@ -31,6 +31,7 @@ pub use line::Placed;
 pub use line::Refused;
 pub use line::Spaced;
 pub use line::Written;
+pub use line::steps::route_line;
 pub use one_mark::position_one_mark;
 pub use position::Position;
 pub use refusal::Refusal;

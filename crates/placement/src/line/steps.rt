@@ -4,11 +4,12 @@ ghost use mathlib.Core.Bool.{cond};
 ghost use mathlib.Core.List.{map};
 ghost use mathlib.Core.Path.{_≡_};
 ghost use Rattle.placement.specs.Directions.{isHorizontal};
-ghost use Rattle.placement.specs.Lines.{cells, positionsOf};
+ghost use Rattle.placement.specs.Lines.{cells, positionsOf, rowsOf};
 ghost use Rattle.placement.specs.Mapped.{mapPosition, mapRow};
 ghost use Rattle.placement.specs.Placements.{placedLine};
+ghost use Rattle.placement.specs.Route.{route};
 ghost use Rattle.placement.specs.Spaces.{spacedAlong};
-ghost use Rattle.placement.specs.Steps.{classAnswer, fits, mapAnswer, placeAnswer, spaceAnswer, writeAnswer};
+ghost use Rattle.placement.specs.Steps.{classAnswer, fits, mapAnswer, placeAnswer, routeAnswer, spaceAnswer, writeAnswer};
 ghost use Rattle.signs.specs.Reclassing.{reclassed};
 ghost use Rattle.std.specs.Results.{isOk};
 use crate::bounded::all_bounded;
@@ -154,4 +155,27 @@ impl Spaced {
         let Spaced { len, settings } = self;
         Ok(Placed { len, settings })
     }
+}
+
+// The whole route at once, from the signs as they are written to their places.
+pub fn route_line<F: Face>(
+    face: &F,
+    settings: Settings,
+    rows: &mut [SignRow],
+    positions: &mut [Position],
+) -> Result<Placed, Refusal>
+    ensures answer { λ r. ⌜ r ≡ routeAnswer settings (length (now (rows .entry))) (length (now (positions .entry))) ⌝ }
+    ensures rows { λ r. ⌜ now (rows .exit) ≡ cond (isOk r) (rowsOf (route (meaning (now (face .entry))) settings (now (rows .entry)))) (now (rows .entry)) ⌝ }
+    ensures positions { λ r. ⌜ now (positions .exit) ≡ cond (isOk r) (positionsOf (route (meaning (now (face .entry))) settings (now (rows .entry)))) (now (positions .entry)) ⌝ }
+{
+    let len = rows.len();
+    if !fitting(len, len, positions.len()) {
+        return Err(Refusal::Length);
+    }
+    let horizontal = settings.direction.is_horizontal();
+    class_all(rows);
+    map_all(face, horizontal, rows, positions);
+    fallback_spaces(face, horizontal, rows, positions);
+    position_marks(face, settings, rows, positions);
+    Ok(Placed { len, settings })
 }
