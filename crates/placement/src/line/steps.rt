@@ -83,12 +83,8 @@ impl Classed {
                 refusal: Refusal::Length,
             });
         }
-        map_all(
-            face,
-            self.settings.direction.is_horizontal(),
-            rows,
-            positions,
-        );
+        let horizontal = self.settings.direction.is_horizontal();
+        map_all(face, horizontal, rows, positions);
         let Classed { len, settings } = self;
         Ok(Mapped { len, settings })
     }
@@ -117,12 +113,8 @@ impl Mapped {
                 refusal: Refusal::OutOfBounds,
             });
         }
-        fallback_spaces(
-            face,
-            self.settings.direction.is_horizontal(),
-            rows,
-            positions,
-        );
+        let horizontal = self.settings.direction.is_horizontal();
+        fallback_spaces(face, horizontal, rows, positions);
         let Mapped { len, settings } = self;
         Ok(Spaced { len, settings })
     }
