@@ -1,8 +1,10 @@
-// Prints how one gate's sign is drawn when the gate is closed and when it is locked.
+// Prints how one gate's sign is drawn when the gate is closed and when it is locked, and a row of three gates.
 mod gate;
+mod row;
 
 use gate::GateSign;
 use gate::closed_and_locked;
+use row::show_row;
 use std::error::AnyError;
 
 fn show(rt: &impl Print, state: &str, side: &str, sign: Option<GateSign>) -> Result<(), AnyError> {
@@ -23,7 +25,8 @@ fn run(rt: &impl Print) -> Result<(), AnyError> {
                 "Right and up from the letter's origin, 1000 units to the em."
             )?;
             show(rt, "closed", "beneath", closed)?;
-            show(rt, "locked", "over", locked)
+            show(rt, "locked", "over", locked)?;
+            show_row(rt)
         }
         Err(_) => Err("the panel font is refused".into()),
     }
