@@ -1,6 +1,8 @@
 // Places one mark on one base for each line of standard input; the stored output is what the original answers.
 mod cases;
 #[cfg(test)]
+mod line_tests;
+#[cfg(test)]
 mod tests;
 
 use cases::Case;
