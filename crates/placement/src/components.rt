@@ -25,27 +25,27 @@ pub(crate) fn component_of(base: Sign, mark: Sign) -> u8
 }
 
 // How many components lie to the left of one.
-fn components_before(ltr: bool, count: u8, component_: u8) -> i32
+fn components_before(ltr: bool, count: u8, number: u8) -> i32
     requires count { ⌜ count ≤ 15 ⌝ }
-    requires component { ⌜ «component_» ≤ 15 ⌝ }
-    ensures { λ r. ⌜ r ≡ leftward ltr count «component_» ⌝ }
+    requires component { ⌜ number ≤ 15 ⌝ }
+    ensures { λ r. ⌜ r ≡ leftward ltr count number ⌝ }
 {
     if ltr {
-        component_ as i32 - 1
+        number as i32 - 1
     } else {
-        count as i32 - component_ as i32
+        count as i32 - number as i32
     }
 }
 
 // The box of a component: its share of the box of the base.
-pub(crate) fn share_of(ltr: bool, count: u8, component_: u8, base: Extents) -> Extents
+pub(crate) fn share_of(ltr: bool, count: u8, number: u8, base: Extents) -> Extents
     requires several { ⌜ 1 < count ⌝ }
     requires count { ⌜ count ≤ 15 ⌝ }
-    requires component { ⌜ «component_» ≤ 15 ⌝ }
+    requires component { ⌜ number ≤ 15 ⌝ }
     requires base { ⌜ Spans 40032768 base ⌝ }
-    ensures { λ r. ⌜ r ≡ share ltr count «component_» base ⌝ }
+    ensures { λ r. ⌜ r ≡ share ltr count number base ⌝ }
 {
-    let before = components_before(ltr, count, component_);
+    let before = components_before(ltr, count, number);
     let count = count as i32;
     Extents {
         left: before * base.width / count,

@@ -13,14 +13,14 @@ use signs::Sign;
 use signs::SignRow;
 
 // A size along the line.
-fn sized(horizontal: bool, size_: u32) -> i32
-    requires { ⌜ «size_» ≤ 65535 ⌝ }
-    ensures { λ r. ⌜ r ≡ size horizontal «size_» ⌝ }
+fn sized(horizontal: bool, units: u32) -> i32
+    requires { ⌜ units ≤ 65535 ⌝ }
+    ensures { λ r. ⌜ r ≡ size horizontal units ⌝ }
 {
     if horizontal {
-        size_ as i32
+        units as i32
     } else {
-        -(size_ as i32)
+        -(units as i32)
     }
 }
 

@@ -46,17 +46,17 @@ fn to_component(settings: Settings, base: Sign, extents: Extents, mark: Sign, wa
     requires known { ⌜ Known (record { row = rowOf base; extents = extents }) walk ⌝ }
     ensures { λ r. ⌜ r ≡ toComponent settings (record { row = rowOf base; extents = extents }) (component (rowOf base) (rowOf mark)) walk ⌝ }
 {
-    let component_ = component_of(base, mark);
-    if walk.component == component_ {
+    let number = component_of(base, mark);
+    if walk.component == number {
         return walk;
     }
     Walk {
-        component: component_,
+        component: number,
         class: 0,
         around: share_of(
             settings.is_text_ltr(),
             base.lig_num_comps(),
-            component_,
+            number,
             extents,
         ),
         ..walk

@@ -11,17 +11,17 @@ use Rattle.placement.proofs.components.share_of.Needs as need
 
 pub mul-result : need.mul-result
 mul-result c =
-    let hk = subst (Within 15) (sym (c .components-before-before .ensures)) (leftward-within (c .args .ltr) (c .args .count) (c .args .component-) (c .pre .count) (c .pre .component)) in
+    let hk = subst (Within 15) (sym (c .components-before-before .ensures)) (leftward-within (c .args .ltr) (c .args .count) (c .args .number) (c .pre .count) (c .pre .component)) in
     product-fits _ _ (c .args .count) hk (c .pre .base .width) (c .pre .count)
 
 pub div-result : need.div-result
 div-result c =
-    let hk = subst (Within 15) (sym (c .components-before-before .ensures)) (leftward-within (c .args .ltr) (c .args .count) (c .args .component-) (c .pre .count) (c .pre .component)) in
+    let hk = subst (Within 15) (sym (c .components-before-before .ensures)) (leftward-within (c .args .ltr) (c .args .count) (c .args .number) (c .pre .count) (c .pre .component)) in
     (omega (arith, c .pre .several), quotient-fits _ _ (c .args .count) hk (c .pre .base .width) (c .pre .count))
 
 pub returns : need.returns
 returns c =
-    let hk = subst (Within 15) (sym (c .components-before-before .ensures)) (leftward-within (c .args .ltr) (c .args .count) (c .args .component-) (c .pre .count) (c .pre .component)) in
+    let hk = subst (Within 15) (sym (c .components-before-before .ensures)) (leftward-within (c .args .ltr) (c .args .count) (c .args .number) (c .pre .count) (c .pre .component)) in
     let b = c .args .base in
     let room = c .pre .base in
     same-box
