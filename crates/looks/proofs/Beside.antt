@@ -14,8 +14,10 @@ use Rattle.std.specs.declared.option.Option.{Option}
 use Rattle.std.specs.declared.option.Option.the-variants.{Some, None}
 use Rattle.signs.specs.declared.SignRow.{SignRow}
 use Rattle.signs.specs.Rows.{isMark}
-use Rattle.signs.proofs.Reclassing.{reclassing-stands}
+use Rattle.signs.specs.Laws.{ReclassingStands}
 use Rattle.faces.specs.Meaning.{FaceMeaning, Edges, Keeps}
+use Rattle.placement.specs.ByGroups.{LinesStand}
+use Rattle.placement.specs.Kept.{PlacedMarksKeep}
 use Rattle.looks.specs.Signs.{isMarkRow, glyphOf}
 use Rattle.looks.specs.Groups.{AreMarks, Marked}
 use Rattle.looks.specs.Measured.{measure}
@@ -81,8 +83,8 @@ unfolding marked-by
 covers before mark rest hm =
     ⊎-elim inl (λ k. inr (marked-by before mark rest hm k, sym (ap length (k .is) ∙ length-append (k .before) (k .base ∷ k .marks)), refl)) (last-base before)
 
-marks-as-read : MarksAsRead
-marks-as-read r = ap isMark (reclassing-stands r .read) ∙ reclassing-stands r .keepsMarks
+marks-as-read : ReclassingStands → MarksAsRead
+marks-as-read classing r = ap isMark (classing r .read) ∙ classing r .keepsMarks
 
-pub looks-stand : LooksStand
-looks-stand = record { promise = looks-keep; neverNegative = never-negative; covers = covers; marksAsRead = marks-as-read }
+pub looks-stand : PlacedMarksKeep → LinesStand → ReclassingStands → LooksStand
+looks-stand keep lines classing = record { promise = looks-keep keep lines; neverNegative = never-negative; covers = covers; marksAsRead = marks-as-read classing }

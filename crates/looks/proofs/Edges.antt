@@ -15,9 +15,8 @@ use Rattle.placement.specs.declared.Direction.{Direction}
 use Rattle.placement.specs.declared.Extents.{Extents}
 use Rattle.placement.specs.Classes.{way, align}
 use Rattle.placement.specs.Placing.{gapBefore, reached, placed}
-use Rattle.placement.specs.Kept.{Kept, Even}
+use Rattle.placement.specs.Kept.{Kept, Even, PlacedMarksKeep}
 use Rattle.placement.specs.Walks.{ink}
-use Rattle.placement.proofs.Keeping.{placed-marks-keep}
 use Rattle.looks.specs.Shares.{Sides}
 
 -- a measured mark has a box
@@ -42,9 +41,9 @@ pub tall : (d : Way) (y : ℤ) (m : Edges) → far d y m ≡ near d y m +ℤ (m 
 tall Above y m = omega (arith, ints)
 tall Below y m = omega (arith, ints)
 
-module _ (gap c : ℕ) (dir : Direction) (run : Extents) (m : Edges) where
+module _ (keep : PlacedMarksKeep) (gap c : ℕ) (dir : Direction) (run : Extents) (m : Edges) where
   abbrev kept : Kept run m gap c dir (placed run m gap c dir)
-  kept = placed-marks-keep run m gap c dir
+  kept = keep run m gap c dir
 
   pub clears : (d : Way) → way c ≡ Some d → (front d run +ℤ pos (gapBefore gap c)) ≤ℤ near d (placed run m gap c dir .y) m
   clears Above h = let k = kept .clear Above h in omega (arith, ints, k)

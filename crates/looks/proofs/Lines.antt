@@ -25,9 +25,9 @@ use Rattle.placement.specs.Lines.{Cell}
 use Rattle.placement.specs.Mapped.{mapRow, mapPosition}
 use Rattle.placement.specs.Spaces.{halvedAlong, ownAdvance, respaced, spacePosition, withOwn}
 use Rattle.placement.specs.Walks.{Base, baseAt, corrected, start, settled, next, out, walked}
-use Rattle.placement.specs.Placements.{Standing, Leading, Along, opened, outBy, nextBy, flow, placedLine}
+use Rattle.placement.specs.Placements.{Leading, Along, opened, outBy, nextBy, flow, placedLine}
 use Rattle.placement.specs.Route.{cellOf, route}
-use Rattle.placement.proofs.ByGroups.{flowed, flow-append}
+use Rattle.placement.specs.ByGroups.{LinesStand}
 use Rattle.looks.specs.Signs.{isMarkRow, rowClass}
 use Rattle.looks.specs.Groups.{AreMarks}
 use Rattle.looks.specs.Measured.{measure, measureBase}
@@ -136,16 +136,15 @@ module _ (f : FaceMeaning) (s : Settings) where
     abbrev pub others : List SignRow → SignRow → List SignRow → List Cell
     others marks mark rest = flow f s (Along theBase (next f s theBase (after f s theBase theStart marks) (cellOf f s mark))) (map (cellOf f s) rest)
 
-    pub route-cut : (before marks : List SignRow) (mark : SignRow) (rest : List SignRow) → isMarkRow base ≡ false → AreMarks marks → isMarkRow mark ≡ true
+    pub route-cut : LinesStand → (before marks : List SignRow) (mark : SignRow) (rest : List SignRow) → isMarkRow base ≡ false → AreMarks marks → isMarkRow mark ≡ true
         → route f s (before ++ base ∷ (marks ++ mark ∷ rest)) ≡ placedLine f s (map (cellOf f s) before) ++ cellOf f s base ∷ (inner marks ++ shown marks mark ∷ others marks mark rest)
-    route-cut before marks mark rest hbase hmarks hmark =
+    route-cut lines before marks mark rest hbase hmarks hmark =
         let cell : SignRow → Cell = cellOf f s in
         let a : List Cell = map cell rest in
         let ys : List Cell = map cell marks ++ cell mark ∷ a in
-        let st : Standing = flowed f s Leading (map cell before) in
         let w : Walk = after f s theBase theStart marks in
         let e1 : map cell (before ++ base ∷ (marks ++ mark ∷ rest)) ≡ map cell before ++ cell base ∷ ys = map-append cell before (base ∷ (marks ++ mark ∷ rest)) ∙ ap (λ l. map cell before ++ cell base ∷ l) (map-append cell marks (mark ∷ rest)) in
-        let e2 : flow f s st (cell base ∷ ys) ≡ cell base ∷ flow f s (Along theBase theStart) ys = ap (λ t. outBy f s t st (cell base) ∷ flow f s (nextBy f s t st (cell base)) ys) hbase ∙ ap (λ o. cell base ∷ flow f s (opened f s (cell base) o) ys) hb in
+        let e2 : placedLine f s (cell base ∷ ys) ≡ cell base ∷ flow f s (Along theBase theStart) ys = ap (λ t. outBy f s t Leading (cell base) ∷ flow f s (nextBy f s t Leading (cell base)) ys) hbase ∙ ap (λ o. cell base ∷ flow f s (opened f s (cell base) o) ys) hb in
         let e3 : flow f s (Along theBase w) (cell mark ∷ a) ≡ shown marks mark ∷ others marks mark rest = ap (λ t. outBy f s t (Along theBase w) (cell mark) ∷ flow f s (nextBy f s t (Along theBase w) (cell mark)) a) hmark in
         let e4 : flow f s (Along theBase theStart) ys ≡ inner marks ++ shown marks mark ∷ others marks mark rest = flow-marks theBase theStart marks (cell mark ∷ a) hmarks ∙ ap (λ l. inner marks ++ l) e3 in
-        ap (flow f s Leading) e1 ∙ flow-append f s Leading (map cell before) (cell base ∷ ys) ∙ ap (λ l. placedLine f s (map cell before) ++ l) (e2 ∙ ap (λ l. cell base ∷ l) e4)
+        ap (placedLine f s) e1 ∙ lines .cutLines f s (map cell before) (cell base ∷ ys) hbase ∙ ap (λ l. placedLine f s (map cell before) ++ l) (e2 ∙ ap (λ l. cell base ∷ l) e4)

@@ -13,7 +13,7 @@ use Rattle.placement.specs.Directions.{isForward}
 use Rattle.placement.specs.Lines.{Cell, rowsOf}
 use Rattle.placement.specs.Mapped.{mapRow}
 use Rattle.placement.specs.Route.{route}
-use Rattle.placement.proofs.ByGroups.{as-long, in-order}
+use Rattle.placement.specs.ByGroups.{LinesStand}
 use Rattle.looks.specs.Drawing.{look, drawn, turns}
 use Rattle.looks.specs.Shown.{itemOf}
 use Rattle.looks.specs.Promise.{InTurn, Shows}
@@ -43,12 +43,12 @@ cut-at [] us u vs e = absurd (nil-cons us u vs e)
 cut-at (c ∷ cs) [] u vs e = record { front = []; cell = c; rest = cs; is = refl; frontIs = refl; cellIs = cc }
 cut-at (c ∷ cs) (x ∷ us) u vs e = cut-more c x cs us u (cut-at cs us u vs (cc))
 
-module _ (f : FaceMeaning) (s : Settings) where
+module _ (lines : LinesStand) (f : FaceMeaning) (s : Settings) where
   pub as-many : (rows : List SignRow) → length (look f s rows) ≡ length rows
-  as-many rows = drawn-length s (route f s rows) ∙ as-long f s rows
+  as-many rows = drawn-length s (route f s rows) ∙ lines .asLong f s rows
 
   pub in-turn : (rows : List SignRow) → InTurn f s rows (look f s rows)
-  in-turn rows = drawn-places s (route f s rows) ∙ ap (turns (isForward (s .direction))) (as-long f s rows)
+  in-turn rows = drawn-places s (route f s rows) ∙ ap (turns (isForward (s .direction))) (lines .asLong f s rows)
 
   shown-at : (cs : List Cell) (us : List SignRow) (u : SignRow) (n : ℕ) → length us ≡ n → Cut cs us u → (itemOf n (drawn s cs) .place ≡ n) × (itemOf n (drawn s cs) .glyph ≡ u .code)
   shown-at cs us u n en k =
@@ -61,4 +61,4 @@ module _ (f : FaceMeaning) (s : Settings) where
   shows rows before sign rest e =
       let lineRow : SignRow → SignRow = λ (r : SignRow). mapRow f (reclassed r) in
       shown-at (route f s rows) (map lineRow before) (lineRow sign) (length before) (length-map before lineRow)
-      (cut-at (route f s rows) (map lineRow before) (lineRow sign) (map lineRow rest) (in-order f s rows ∙ ap (map lineRow) e ∙ map-append lineRow before (sign ∷ rest)))
+      (cut-at (route f s rows) (map lineRow before) (lineRow sign) (map lineRow rest) (lines .inOrder f s rows ∙ ap (map lineRow) e ∙ map-append lineRow before (sign ∷ rest)))

@@ -19,11 +19,12 @@ use Rattle.placement.specs.declared.classes.Way.{Way}
 use Rattle.placement.specs.declared.classes.Way.the-variants.{Above, Below}
 use Rattle.placement.specs.declared.walk.Walk.{Walk}
 use Rattle.placement.specs.Classes.{way}
-use Rattle.placement.specs.Kept.{Even}
+use Rattle.placement.specs.Kept.{Even, PlacedMarksKeep}
 use Rattle.placement.specs.OneMark.{gapOf}
 use Rattle.placement.specs.Placing.{placed}
 use Rattle.placement.specs.Walks.{Base}
 use Rattle.placement.specs.Route.{cellOf}
+use Rattle.placement.specs.ByGroups.{LinesStand}
 use Rattle.looks.specs.Signs.{isMarkRow, rowClass, rowComponent}
 use Rattle.looks.specs.Groups.{AreMarks, InGroup, basePlace, placeAfter, markPlace}
 use Rattle.looks.specs.Runs.{alike, withinRun}
@@ -56,16 +57,16 @@ all-front : (P : SignRow → Type 0) (xs ys : List SignRow) → All P (xs ++ ys)
 all-front P [] ys a = (tt, a)
 all-front P (x ∷ xs) ys a = let h = all-front P xs ys (a .1) in ((a .0, h .0), h .1)
 
-module _ (f : FaceMeaning) (s : Settings) (rows : List SignRow) where
+module _ (keep : PlacedMarksKeep) (lines : LinesStand) (f : FaceMeaning) (s : Settings) (rows : List SignRow) where
   clear-of-base : ClearOfBase f s rows (look f s rows)
   clear-of-base c d bb mb hb hm hw =
       let b : Base = theBase f s (c .base) bb hb in
       let w : Walk = theStart f s (c .base) bb hb in
       let z : SignRow = c .mark in
       let n : eqb (rowClass z) 0 ≡ false = way-zero (rowClass z) d hw in
-      let h = reach f s b z mb d hw (c .marks) w refl in
+      let h = reach f s b z mb d hw keep (c .marks) w refl in
       let e : edge f s b z mb d hw w (c .marks) ≡ front d (b .extents) = cond-false _ _ _ (and-right (withinRun (c .base) z (c .marks)) _ (and-left _ _ (flip (rowClass z) n))) in
-      let st = stands f s rows (c .before) (c .base) (c .marks) z (c .after) (c .inGroup) bb hb n mb hm in
+      let st = stands lines f s rows (c .before) (c .base) (c .marks) z (c .after) (c .inGroup) bb hb n mb hm in
       let need : ℤ = pos (gaps f (c .base) (c .marks) z) +ℤ heights f (c .base) (c .marks) z in
       let k : (front d (b .extents) +ℤ need) ≤ℤ reached f s b z mb d hw (after f s b w (c .marks)) = omega (arith, ints, h, e) in
       from-base d (b .extents) bb mb (itemOf (basePlace c) (look f s rows)) (itemOf (markPlace c) (look f s rows)) _ _ need refl refl (no-offsets f s (c .base) .1) (st .1) k
@@ -83,10 +84,10 @@ module _ (f : FaceMeaning) (s : Settings) (rows : List SignRow) where
       let nf : eqb (rowClass first) 0 ≡ false = way-zero (rowClass first) d hf in
       let v : Walk = after f s b w ahead in
       let aft : after f s b w (c .marks) ≡ after f s b (step f s b v first) between = ap (after f s b w) hs ∙ after-append f s b ahead (first ∷ between) w in
-      let h = reach f s b z mb d hw between (step f s b v first) (next-level f s b v (cellOf f s first) d (level-after f s b d ahead w refl)) in
+      let h = reach f s b z mb d hw keep between (step f s b v first) (next-level f s b v (cellOf f s first) d (level-after f s b d ahead w refl)) in
       let e : edge f s b z mb d hw (step f s b v first) between ≡ front d (step f s b v first .run) = cond-true _ _ _ (and-from _ _ (run .1) (stepped-here f s b z mb d hw v first nf ∙ run .0)) in
       let ya : ℤ = up f s b v first ab in
-      let e2 = step-far f s b d v first ab hf ha in
+      let e2 = step-far f s b keep d v first ab hf ha in
       let need : ℤ = pos (gaps f (c .base) between z) +ℤ heights f (c .base) between z in
       let k0 : (far d ya ab +ℤ need) ≤ℤ reached f s b z mb d hw (after f s b (step f s b v first) between) = omega (arith, ints, h, e, e2) in
       let k : (far d ya ab +ℤ need) ≤ℤ reached f s b z mb d hw (after f s b w (c .marks)) = subst (λ u. (far d ya ab +ℤ need) ≤ℤ reached f s b z mb d hw u) (sym aft) k0 in
@@ -97,8 +98,8 @@ module _ (f : FaceMeaning) (s : Settings) (rows : List SignRow) where
         marksAre = are .0;
         markIs = are .1 .0;
       } in
-      let st = stands f s rows (c .before) (c .base) (c .marks) z (c .after) g bb hb n mb hm in
-      let sf = stands f s rows (c .before) (c .base) ahead first (between ++ z ∷ c .after) g2 bb hb nf ab ha in
+      let st = stands lines f s rows (c .before) (c .base) (c .marks) z (c .after) g bb hb n mb hm in
+      let sf = stands lines f s rows (c .before) (c .base) ahead first (between ++ z ∷ c .after) g2 bb hb nf ab ha in
       from-mark d ab mb (itemOf (basePlace c) (look f s rows)) (itemOf (placeAfter c ahead) (look f s rows)) (itemOf (markPlace c) (look f s rows)) ya _ need (sf .1) (st .1) k
 
   centred : InTheMiddle f s rows (look f s rows)
@@ -111,18 +112,18 @@ module _ (f : FaceMeaning) (s : Settings) (rows : List SignRow) where
       let r : Extents = into f s b v z .run in
       let e : sidesOf r ≡ componentSides f s (c .base) (c .marks) z =
       into-run f s b z v (anyBelongs (c .base) (c .marks)) hold n ∙ into-sides f s b z v (anyBelongs (c .base) (c .marks)) hold n ∙ ap (λ t. own f s b t (rowComponent (c .base) z)) (sym (any-last (c .base) (c .marks) z)) in
-      let st = stands f s rows (c .before) (c .base) (c .marks) z (c .after) (c .inGroup) bb hb n mb hm in
+      let st = stands lines f s rows (c .before) (c .base) (c .marks) z (c .after) (c .inGroup) bb hb n mb hm in
       let i : Item = itemOf (basePlace c) (look f s rows) in
       let j : Item = itemOf (markPlace c) (look f s rows) in
       subst (λ k. Even (leftRoom i k (moved j mb)) (rightRoom i k (moved j mb))) e
-      (from-sides i j (sidesOf r) mb (placed r mb (gapOf f) (rowClass z) (s .direction) .x) (st .0) (centres (gapOf f) (rowClass z) (s .direction) r mb ha))
+      (from-sides i j (sidesOf r) mb (placed r mb (gapOf f) (rowClass z) (s .direction) .x) (st .0) (centres keep (gapOf f) (rowClass z) (s .direction) r mb ha))
 
-pub looks-keep : LooksKeep
-looks-keep f s rows = record {
-  asMany = as-many f s rows;
-  inTurn = in-turn f s rows;
-  shows = shows f s rows;
-  clearOfBase = clear-of-base f s rows;
-  clearOfMarks = clear-of-marks f s rows;
-  centred = centred f s rows;
+pub looks-keep : PlacedMarksKeep → LinesStand → LooksKeep
+looks-keep keep lines f s rows = record {
+  asMany = as-many lines f s rows;
+  inTurn = in-turn lines f s rows;
+  shows = shows lines f s rows;
+  clearOfBase = clear-of-base keep lines f s rows;
+  clearOfMarks = clear-of-marks keep lines f s rows;
+  centred = centred keep lines f s rows;
 }

@@ -19,6 +19,7 @@ use Rattle.placement.specs.declared.Settings.{Settings}
 use Rattle.placement.specs.declared.classes.Way.{Way}
 use Rattle.placement.specs.declared.walk.Walk.{Walk}
 use Rattle.placement.specs.Classes.{way}
+use Rattle.placement.specs.Kept.{PlacedMarksKeep}
 use Rattle.placement.specs.OneMark.{gapOf}
 use Rattle.placement.specs.Placing.{placed}
 use Rattle.placement.specs.Walks.{Base, settledWalk}
@@ -59,10 +60,10 @@ module _ (f : FaceMeaning) (s : Settings) (b : Base) where
   step-settled w m o h eo = next-other f s b w (cellOf f s m) h ∙ ap (settledWalk f s (into w m) (rowClass m)) eo
 
   -- the edge that a measured mark leaves to its run
-  pub step-far : (d : Way) (w : Walk) (m : SignRow) (e : Edges) → way (rowClass m) ≡ Some d → measure f m ≡ Some e → front d (step f s b w m .run) ≡ far d (up w m e) e
-  step-far d w m e hm eo =
+  pub step-far : PlacedMarksKeep → (d : Way) (w : Walk) (m : SignRow) (e : Edges) → way (rowClass m) ≡ Some d → measure f m ≡ Some e → front d (step f s b w m .run) ≡ far d (up w m e) e
+  step-far keep d w m e hm eo =
       ap (λ u. front d (u .run)) (step-settled w m (Some e) (way-zero (rowClass m) d hm) eo)
-      ∙ grows (gapOf f) (rowClass m) (s .direction) (into w m .run) e d hm
+      ∙ grows keep (gapOf f) (rowClass m) (s .direction) (into w m .run) e d hm
 
 module _ (f : FaceMeaning) (s : Settings) (b : Base) (z : SignRow) (box : Edges) (d : Way) (hz : way (rowClass z) ≡ Some d) where
   nz : eqb (rowClass z) 0 ≡ false
@@ -124,42 +125,42 @@ module _ (f : FaceMeaning) (s : Settings) (b : Base) (z : SignRow) (box : Edges)
     edge-after : edge (step f s b w m) ms ≡ front d (step f s b w m .run)
     edge-after = cond-true _ _ _ (and-from _ _ t (stepped-here w m h ∙ al))
 
-    stepping-within : (o : Option Edges) → measure f m ≡ o → Stepping w m ms o
+    stepping-within : PlacedMarksKeep → (o : Option Edges) → measure f m ≡ o → Stepping w m ms o
     unfolding Stepping
-    stepping-within None eo =
+    stepping-within keep None eo =
         let e = ap (λ u. front d (u .run)) (step-settled f s b w m None h eo) in
         omega (arith, ints, edge-before, edge-after)
-    stepping-within (Some e) eo =
+    stepping-within keep (Some e) eo =
         let hm : way (rowClass m) ≡ Some d = ap way same-class ∙ hz in
-        let k = step-far f s b d w m e hm eo in
-        let g = clears (gapOf f) (rowClass m) (s .direction) (into f s b w m .run) e d hm in
+        let k = step-far f s b keep d w m e hm eo in
+        let g = clears keep (gapOf f) (rowClass m) (s .direction) (into f s b w m .run) e d hm in
         omega (arith, ints, edge-before, edge-after, tall d (up f s b w m e) e)
 
-  stepping-run : (w : Walk) (m : SignRow) (ms : List SignRow) → Level s b d w → eqb (rowClass m) 0 ≡ false → alike (b .row) m z ≡ true → Stepping w m ms (steppedTo f (b .row) m ms z)
-  stepping-run w m ms l h al =
+  stepping-run : PlacedMarksKeep → (w : Walk) (m : SignRow) (ms : List SignRow) → Level s b d w → eqb (rowClass m) 0 ≡ false → alike (b .row) m z ≡ true → Stepping w m ms (steppedTo f (b .row) m ms z)
+  stepping-run keep w m ms l h al =
       let wi : withinRun (b .row) z (m ∷ ms) ≡ withinRun (b .row) z ms = ap (λ t. (t || alike (b .row) m z) && withinRun (b .row) z ms) h ∙ ap (λ t. t && withinRun (b .row) z ms) al in
       ⊎-elim
-      (λ t. subst (Stepping w m ms) (sym (cond-true (sameRun (b .row) m ms z) _ _ (and-from _ _ al t))) (stepping-within w m ms l h al t (measure f m) refl))
+      (λ t. subst (Stepping w m ms) (sym (cond-true (sameRun (b .row) m ms z) _ _ (and-from _ _ al t))) (stepping-within w m ms l h al t keep (measure f m) refl))
       (λ t. let e1 : edge w (m ∷ ms) ≡ front d (b .extents) = cond-false _ _ _ (and-left _ _ (wi ∙ t)) in
       let e2 : edge (step f s b w m) ms ≡ front d (b .extents) = cond-false _ _ _ (and-left _ _ t) in
       same-edge w m ms (and-right _ _ t) (e1 ∙ sym e2))
       (cases-bool (withinRun (b .row) z ms))
 
-  stepping : (w : Walk) (m : SignRow) (ms : List SignRow) → Level s b d w → Stepping w m ms (steppedTo f (b .row) m ms z)
-  stepping w m ms l =
+  stepping : PlacedMarksKeep → (w : Walk) (m : SignRow) (ms : List SignRow) → Level s b d w → Stepping w m ms (steppedTo f (b .row) m ms z)
+  stepping keep w m ms l =
       ⊎-elim
       (λ h. stepping-zero w m ms h)
-      (λ h. ⊎-elim (λ al. stepping-run w m ms l h al) (λ al. stepping-other w m ms h al) (cases-bool (alike (b .row) m z)))
+      (λ h. ⊎-elim (λ al. stepping-run keep w m ms l h al) (λ al. stepping-other w m ms h al) (cases-bool (alike (b .row) m z)))
       (cases-bool (eqb (rowClass m) 0))
 
   -- from any point of the walk, the gaps and the heights up to z fit
-  pub reach : (ms : List SignRow) (w : Walk) → Level s b d w → (edge w ms +ℤ pos (gaps f (b .row) ms z) +ℤ heights f (b .row) ms z) ≤ℤ reached (after f s b w ms)
+  pub reach : PlacedMarksKeep → (ms : List SignRow) (w : Walk) → Level s b d w → (edge w ms +ℤ pos (gaps f (b .row) ms z) +ℤ heights f (b .row) ms z) ≤ℤ reached (after f s b w ms)
   unfolding Stepping
-  reach [] w l =
+  reach keep [] w l =
       let e = enter-front s b (rowClass z) (rowComponent (b .row) z) w d nz l in
-      let h = clears (gapOf f) (rowClass z) (s .direction) (into f s b w z .run) box d hz in
+      let h = clears keep (gapOf f) (rowClass z) (s .direction) (into f s b w z .run) box d hz in
       omega (arith, ints)
-  reach (m ∷ ms) w l =
-      let k = stepping w m ms l in
-      let h = reach ms (step f s b w m) (next-level f s b w (cellOf f s m) d l) in
+  reach keep (m ∷ ms) w l =
+      let k = stepping keep w m ms l in
+      let h = reach keep ms (step f s b w m) (next-level f s b w (cellOf f s m) d l) in
       omega (arith, ints)

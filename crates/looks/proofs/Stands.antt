@@ -23,7 +23,7 @@ use Rattle.placement.specs.Placing.{placed}
 use Rattle.placement.specs.Walks.{Base, began, corrected, settled}
 use Rattle.placement.specs.Placements.{placedLine}
 use Rattle.placement.specs.Route.{cellOf}
-use Rattle.placement.proofs.ByGroups.{as-long}
+use Rattle.placement.specs.ByGroups.{LinesStand}
 use Rattle.looks.specs.Signs.{rowClass, rowComponent}
 use Rattle.looks.specs.Groups.{InGroup}
 use Rattle.looks.specs.Measured.{measure, measureBase}
@@ -39,7 +39,7 @@ balance : (t : Bool) (p c x o r i j off st z : ℤ) → i ≡ lead t p (x +ℤ (
 balance true p c x o r i j off st z hi hj ho hz h = omega (arith, ints)
 balance false p c x o r i j off st z hi hj ho hz h = omega (arith, ints)
 
-module _ (f : FaceMeaning) (s : Settings) (rows before : List SignRow) (base : SignRow) (marks : List SignRow) (mark : SignRow) (rest : List SignRow) (g : InGroup rows before base marks mark rest) (box : Edges) (hb : measureBase f base ≡ Some box) (nz : eqb (rowClass mark) 0 ≡ false) where
+module _ (lines : LinesStand) (f : FaceMeaning) (s : Settings) (rows before : List SignRow) (base : SignRow) (marks : List SignRow) (mark : SignRow) (rest : List SignRow) (g : InGroup rows before base marks mark rest) (box : Edges) (hb : measureBase f base ≡ Some box) (nz : eqb (rowClass mark) 0 ≡ false) where
   abbrev b : Base
   b = theBase f s base box hb
 
@@ -77,9 +77,9 @@ module _ (f : FaceMeaning) (s : Settings) (rows before : List SignRow) (base : S
       let xs : List Cell = inner f s base box hb marks in
       let o : Cell = shown f s base box hb marks mark in
       let rs : List Cell = others f s base box hb marks mark rest in
-      let line : look f s rows ≡ drawn s (ps ++ c ∷ (xs ++ o ∷ rs)) = ap (look f s) (g .rowsAre) ∙ ap (drawn s) (route-cut f s base box hb before marks mark rest (g .baseIs) (g .marksAre) (g .markIs)) in
+      let line : look f s rows ≡ drawn s (ps ++ c ∷ (xs ++ o ∷ rs)) = ap (look f s) (g .rowsAre) ∙ ap (drawn s) (route-cut f s base box hb lines before marks mark rest (g .baseIs) (g .marksAre) (g .markIs)) in
       let line2 : look f s rows ≡ drawn s ((ps ++ c ∷ xs) ++ o ∷ rs) = line ∙ ap (drawn s) (sym (append-assoc ps (c ∷ xs) (o ∷ rs))) in
-      let lp : length ps ≡ length before = as-long f s before in
+      let lp : length ps ≡ length before = lines .asLong f s before in
       let lx : length xs ≡ length marks = walked-length f s b (theStart f s base box hb) (map (cellOf f s) marks) ∙ length-map marks (cellOf f s) in
       let la = length-append ps (c ∷ xs) in
       let lz : length (ps ++ c ∷ xs) ≡ length before + suc (length marks) = omega arith in

@@ -1,20 +1,17 @@
-// The laws of whole lines and of looks, for callers to rest on.
-ghost use Rattle.placement.specs.ByGroups.{LinesStand};
+// The laws of looks, for callers to rest on.
 ghost use Rattle.looks.specs.Laws.{LooksStand};
 ghost use Rattle.looks.specs.Worked.{WorkedLooks};
-
-// A line has a cell for each sign, in order, and is placed group by group.
-pub fn lines_stand() -> bool
-    ensures { λ _. ⌜ LinesStand ⌝ }
-{
-    true
-}
+use placement::lines_stand;
+use placement::placing_stands;
+use signs::signs_stand;
 
 // What every look keeps: each sign is shown, marks stand clear and centred ones in the middle.
 pub fn look_stands() -> bool
     ensures { λ _. ⌜ LooksStand ⌝ }
 {
-    true
+    let _ = signs_stand();
+    let _ = lines_stand();
+    placing_stands()
 }
 
 // Worked looks.

@@ -1,6 +1,5 @@
 // Looks: what is drawn of a whole line, and what every look keeps.
 mod laws;
 
-pub use laws::lines_stand;
 pub use laws::look_stands;
 pub use laws::worked_looks_stand;

@@ -14,7 +14,7 @@ use Rattle.std.specs.declared.option.Option.the-variants.{Some, None}
 use Rattle.signs.specs.declared.SignRow.{SignRow}
 use Rattle.signs.specs.Rows.{isMark, class, isNonspacingMark}
 use Rattle.signs.specs.Reclassing.{reclassed}
-use Rattle.signs.proofs.Reclassing as classing
+use Rattle.signs.specs.Laws.{ReclassingStands}
 use Rattle.faces.specs.Meaning.{FaceMeaning, Edges}
 use Rattle.placement.specs.declared.settings.Settings.{Settings}
 use Rattle.placement.specs.declared.walk.Walk.{Walk}
@@ -87,9 +87,9 @@ module _ (f : FaceMeaning) (s : Settings) where
   cells-rows (r ∷ rows) = ap (λ l. mapRow f (reclassed r) ∷ l) (cells-rows rows)
 
   -- a row that is read as no mark is none in its line
-  begins-opens : (ys : List SignRow) → Begins ys → Opens (map (cellOf f s) ys)
-  begins-opens [] h = tt
-  begins-opens (y ∷ ys) h = ap isMark (classing.reclassing-stands y .read) ∙ classing.reclassing-stands y .keepsMarks ∙ h
+  begins-opens : ReclassingStands → (ys : List SignRow) → Begins ys → Opens (map (cellOf f s) ys)
+  begins-opens classing [] h = tt
+  begins-opens classing (y ∷ ys) h = ap isMark (classing y .read) ∙ classing y .keepsMarks ∙ h
 
 pub one-group : OneGroup
 one-group f s base marks rest hb hm ho =
@@ -102,8 +102,8 @@ leading-marks f s marks rest h = leading f s marks rest h
 pub cut-lines : CutLines
 cut-lines f s xs ys h = flow-append f s Leading xs ys ∙ ap (λ l. placedLine f s xs ++ l) (afresh f s (flowed f s Leading xs) Leading ys h)
 
-pub seam : Seam
-seam f s xs ys h = ap (placedLine f s) (map-append (cellOf f s) xs ys) ∙ cut-lines f s (map (cellOf f s) xs) (map (cellOf f s) ys) (begins-opens f s ys h)
+pub seam : ReclassingStands → Seam
+seam classing f s xs ys h = ap (placedLine f s) (map-append (cellOf f s) xs ys) ∙ cut-lines f s (map (cellOf f s) xs) (map (cellOf f s) ys) (begins-opens f s classing ys h)
 
 pub as-long : AsLong
 as-long f s rows = flow-length f s Leading (map (cellOf f s) rows) ∙ length-map rows (cellOf f s)
@@ -111,5 +111,5 @@ as-long f s rows = flow-length f s Leading (map (cellOf f s) rows) ∙ length-ma
 pub in-order : InOrder
 in-order f s rows = flow-rows f s Leading (map (cellOf f s) rows) ∙ cells-rows f s rows
 
-pub lines-stand : LinesStand
-lines-stand = record { asLong = as-long; inOrder = in-order; seam = seam; oneGroup = one-group; leadingMarks = leading-marks; cutLines = cut-lines }
+pub lines-stand : ReclassingStands → LinesStand
+lines-stand classing = record { asLong = as-long; inOrder = in-order; seam = seam classing; oneGroup = one-group; leadingMarks = leading-marks; cutLines = cut-lines }

@@ -23,6 +23,7 @@ mod walking;
 pub use direction::Direction;
 pub use extents::Extents;
 pub use extents::PlacedMark;
+pub use laws::lines_stand;
 pub use laws::placing_stands;
 pub use line::Classed;
 pub use line::MOST_SIGNS;

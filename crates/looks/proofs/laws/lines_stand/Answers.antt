@@ -1,5 +1,0 @@
-use Rattle.placement.proofs.ByGroups.{lines-stand}
-use Rattle.looks.proofs.laws.lines_stand.Needs as need
-
-pub returns : need.returns
-returns c = lines-stand
