@@ -9,3 +9,4 @@ pub mod Shown
 pub mod Promise
 pub mod Laws
 pub mod Worked
+pub mod WorkedSigns

@@ -1,6 +1,7 @@
 // The laws of looks, for callers to rest on.
 ghost use Rattle.looks.specs.Laws.{LooksStand};
 ghost use Rattle.looks.specs.Worked.{WorkedLooks};
+ghost use Rattle.looks.specs.WorkedSigns.{WorkedSigns};
 use placement::lines_stand;
 use placement::placing_stands;
 use signs::signs_stand;
@@ -17,6 +18,13 @@ pub fn look_stands() -> bool
 // Worked looks.
 pub fn worked_looks_stand() -> bool
     ensures { λ _. ⌜ WorkedLooks ⌝ }
+{
+    true
+}
+
+// The worked signs of the panel, in one list.
+pub fn worked_signs_stand() -> bool
+    ensures { λ _. ⌜ WorkedSigns ⌝ }
 {
     true
 }

@@ -3,3 +3,4 @@ mod laws;
 
 pub use laws::look_stands;
 pub use laws::worked_looks_stand;
+pub use laws::worked_signs_stand;
