@@ -1,7 +1,8 @@
 // Answering a case: its line goes through the steps, and what comes of it is printed.
 use crate::case::Case;
 use crate::case::Start;
-use crate::drawing::Pen;
+use crate::drawing::Drawing;
+use crate::drawing::draw;
 use crate::stop::Stop;
 use crate::stop::StopFromAlloc;
 use crate::stop::StopFromAny;
@@ -71,22 +72,15 @@ fn show(
     Ok(())
 }
 
-fn draw(
-    out: &mut impl Write,
-    forward: bool,
-    rows: &[SignRow],
-    positions: &[Position],
-) -> io::Result<()> {
-    let mut pen = Pen { x: 0, y: 0 };
-    let n = rows.len();
-    for k in 0..n {
-        let place = if forward { k } else { n - 1 - k };
-        let position = positions[place];
-        let at = pen.at(position);
-        writeln!(out, "draw,{place},{},{},{}", rows[place].code, at.x, at.y)?;
-        pen = pen.after(position);
+fn show_drawing(out: &mut impl Write, drawing: &Drawing) -> io::Result<()> {
+    for item in drawing.items.iter() {
+        writeln!(
+            out,
+            "draw,{},{},{},{}",
+            item.place, item.glyph, item.x, item.y
+        )?;
     }
-    writeln!(out, "pen,{},{}", pen.x, pen.y)
+    writeln!(out, "pen,{},{}", drawing.pen.x, drawing.pen.y)
 }
 
 // The line as far as it is mapped.
@@ -118,6 +112,7 @@ fn blank(heap: Global, len: usize) -> Result<Vec<Position>, AllocError> {
 }
 
 fn place_line<F: Face>(
+    heap: Global,
     out: &mut impl Write,
     face: &F,
     case: &Case,
@@ -135,7 +130,8 @@ fn place_line<F: Face>(
     }
     let _placed = line.placed(face, rows, positions)?;
     show(out, "at", rows, positions)?;
-    draw(out, case.settings.direction.is_forward(), rows, positions)?;
+    let drawing = draw(heap, case.settings.direction.is_forward(), rows, positions)?;
+    show_drawing(out, &drawing)?;
     Ok(())
 }
 
@@ -144,6 +140,7 @@ fn answer_line(heap: Global, out: &mut impl Write, case: &Case) -> Result<(), St
     let mut rows = case.rows.clone()?;
     let mut positions = blank(heap, rows.len())?;
     place_line(
+        heap,
         out,
         &face,
         case,

@@ -2,6 +2,7 @@
 mod answers;
 mod case;
 mod drawing;
+mod pen;
 mod reading;
 mod script;
 mod stop;
