@@ -5,6 +5,7 @@ use placement::Direction;
 use placement::Position;
 use placement::Settings;
 use signs::SignRow;
+use std::alloc::AllocError;
 use std::alloc::Global;
 
 // A position that replaces what mapping puts at a place.
@@ -29,9 +30,10 @@ pub struct Case {
 }
 
 impl Case {
-    pub fn new(heap: Global) -> Case {
-        Case {
-            label: String::new(heap),
+    // A case of which only the label is known.
+    pub fn new(heap: Global, label: &str) -> Result<Case, AllocError> {
+        Ok(Case {
+            label: String::from_str(heap, label)?,
             trace: false,
             em: 0,
             glyphs: Vec::new(heap),
@@ -44,6 +46,6 @@ impl Case {
             },
             rows: Vec::new(heap),
             starts: Vec::new(heap),
-        }
+        })
     }
 }

@@ -18,7 +18,7 @@ use std::io::Write;
 
 fn run(rt: &LibcRuntime) -> Result<(), AnyError> {
     let mut out = BufWriter::new(rt.stdout());
-    let mut case = Case::new(rt.alloc());
+    let mut case = Case::new(rt.alloc(), "")?;
     for line in BufReader::new(rt.stdin()).lines(rt.alloc()) {
         let line = line?;
         if take_line(rt.alloc(), &mut case, line.as_str())? {

@@ -122,11 +122,13 @@ fn begin_line(case: &mut Case, fields: &[&str]) -> Result<(), AnyError> {
     Ok(())
 }
 
+// label, if any
 fn begin_case(heap: Global, case: &mut Case, fields: &[&str]) -> Result<(), AnyError> {
-    *case = Case::new(heap);
-    if let Some(label) = fields.first() {
-        case.label.push_str(label)?;
-    }
+    let label = match fields {
+        [label, ..] => *label,
+        [] => "",
+    };
+    *case = Case::new(heap, label)?;
     Ok(())
 }
 
@@ -137,19 +139,38 @@ fn only<'a>(fields: &[&'a str]) -> Result<&'a str, AnyError> {
     }
 }
 
-// Takes the fields that stand after a word.
-fn take_fields(heap: Global, case: &mut Case, word: &str, fields: &[&str]) -> Result<(), AnyError> {
+// Takes a line of the face; whether it is one.
+fn take_face(case: &mut Case, word: &str, fields: &[&str]) -> Result<bool, AnyError> {
     match word {
-        "case" => begin_case(heap, case, fields)?,
-        "clean" => {}
-        "trace" => case.trace = is_set(only(fields)?)?,
         "em" => case.em = only(fields)?.parse::<u32>()?,
         "glyph" => case.glyphs.push(boxed(fields)?)?,
         "bare" => case.glyphs.push(bare(fields)?)?,
         "code" => case.codes.push(code(fields)?)?,
+        _ => return Ok(false),
+    }
+    Ok(true)
+}
+
+// Takes a line of the signs; whether it is one.
+fn take_signs(case: &mut Case, word: &str, fields: &[&str]) -> Result<bool, AnyError> {
+    match word {
         "line" => begin_line(case, fields)?,
         "sign" => case.rows.push(sign(fields)?)?,
         "pos" => case.starts.push(start(fields)?)?,
+        _ => return Ok(false),
+    }
+    Ok(true)
+}
+
+// Takes the fields that stand after a word.
+fn take_fields(heap: Global, case: &mut Case, word: &str, fields: &[&str]) -> Result<(), AnyError> {
+    if take_signs(case, word, fields)? || take_face(case, word, fields)? {
+        return Ok(());
+    }
+    match word {
+        "case" => begin_case(heap, case, fields)?,
+        "clean" => {}
+        "trace" => case.trace = is_set(only(fields)?)?,
         _ => return Err("an unknown word".into()),
     }
     Ok(())
