@@ -55,9 +55,6 @@ abbrev pub sides : ℤ → ℤ → Sides
 sides l w = record { left = l; width = w }
 
 pub record WorkedLooks : Type 0 where
-  -- closed, locked, and locked twice
-  pub closed : look face (line LeftToRight) (letter ∷ bar 220 0 ∷ []) ≡ item 0 1 (pos 0) (pos 0) ∷ item 1 2 (pos 150) (negℤ (pos 122)) ∷ []
-  pub locked : look face (line LeftToRight) (letter ∷ bar 230 0 ∷ bar 230 0 ∷ []) ≡ item 0 1 (pos 0) (pos 0) ∷ item 1 2 (pos 150) (pos 762) ∷ item 2 2 (pos 150) (pos 884) ∷ []
   -- a class of a single script is placed by where it belongs
   pub classed : look face (line LeftToRight) (letter ∷ bar 22 0 ∷ []) ≡ item 0 1 (pos 0) (pos 0) ∷ item 1 2 (pos 150) (negℤ (pos 122)) ∷ []
   -- what no sign may be is read as a space, so it is no mark

@@ -3,8 +3,6 @@ use Rattle.looks.proofs.laws.worked_looks_stand.Needs as need
 
 pub returns : need.returns
 returns c = record {
-  closed = refl;
-  locked = refl;
   classed = refl;
   notRead = refl;
   backward = refl;
