@@ -9,7 +9,7 @@ use signs::SignRow;
 
 impl Pen {
     // What is drawn of the sign at a place.
-    pub fn item(self, place: usize, row: SignRow, position: Position) -> Item
+    pub(crate) fn item(self, place: usize, row: SignRow, position: Position) -> Item
         requires { ⌜ Near 256 self ⌝ }
         ensures { λ r. ⌜ r ≡ itemAt self place row position ⌝ }
     {
@@ -22,7 +22,7 @@ impl Pen {
     }
 
     // The pen after the sign.
-    pub fn after(self, position: Position) -> Pen
+    pub(crate) fn after(self, position: Position) -> Pen
         requires { ⌜ Near 256 self ⌝ }
         ensures value { λ r. ⌜ r ≡ moved self position ⌝ }
         ensures near { λ r. ⌜ ((n : ℕ) → Near n self → Near (n + 1) r) ⌝ }
