@@ -1,4 +1,6 @@
 // Answers cases: each is a face, the settings of a line and its signs. The stored output is what the original answers.
+#![tactic(auto)]
+
 mod answers;
 mod case;
 mod drawing;

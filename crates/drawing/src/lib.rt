@@ -1,4 +1,6 @@
 // Looks: what is drawn of a whole line, and what every look keeps.
+#![tactic(auto)]
+
 mod drawing;
 mod item;
 mod laws;

@@ -17,7 +17,7 @@ pub(crate) trait Keyed {
 }
 
 pub(crate) fn is_rising<T: Keyed>(rows: &[T]) -> bool
-    ensures { result ≡ rising key_of rows.now }
+    ensures { result ≡ rising T.key_of rows.now }
 {
     let mut low: u64 = 0;
     for row in rows {
@@ -31,7 +31,7 @@ pub(crate) fn is_rising<T: Keyed>(rows: &[T]) -> bool
 }
 
 pub(crate) fn all_sound<T: Keyed>(rows: &[T]) -> bool
-    ensures { result ≡ every soundness rows.now }
+    ensures { result ≡ every T.soundness rows.now }
 {
     for row in rows {
         if !row.is_sound() {
@@ -50,8 +50,8 @@ fn reaches(key: u32, wanted: u32) -> usize
 
 // The only place that can have the key.
 fn place_of<T: Keyed>(rows: &[T], wanted: u32) -> usize
-    requires { rising key_of rows.now ≡ true }
-    ensures { (k : ℕ) → k < length rows.now → key_at key_of rows.now k ≡ wanted → k ≡ result }
+    requires { rising T.key_of rows.now ≡ true }
+    ensures { (k : ℕ) → k < length rows.now → key_at T.key_of rows.now k ≡ wanted → k ≡ result }
 {
     let mut low = 0;
     let mut size = rows.len();
@@ -65,8 +65,8 @@ fn place_of<T: Keyed>(rows: &[T], wanted: u32) -> usize
 
 // The record of a key.
 pub(crate) fn find<T: Keyed + Copy>(rows: &[T], wanted: u32) -> Option<T>
-    requires { rising key_of rows.now ≡ true }
-    ensures { result ≡ first key_of wanted rows.now }
+    requires { rising T.key_of rows.now ≡ true }
+    ensures { result ≡ first T.key_of wanted rows.now }
 {
     let place = place_of(rows, wanted);
     if place < rows.len() {

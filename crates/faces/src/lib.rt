@@ -1,4 +1,6 @@
 // Faces: what a font answers about codes and glyphs, and the face that is two lists of records.
+#![tactic(auto)]
+
 mod bounds;
 mod face;
 mod keyed;

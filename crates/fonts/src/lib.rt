@@ -1,4 +1,6 @@
 // Font files: TrueType bytes as a face, or the first fault in them.
+#![tactic(auto)]
+
 mod bytes;
 mod faults;
 

@@ -1,4 +1,6 @@
 // The incident of one gate, told on a live legend: its letter is put, it is reported locked, then closed.
+#![tactic(auto)]
+
 mod blank;
 mod places;
 mod reports;

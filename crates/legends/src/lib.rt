@@ -1,4 +1,6 @@
 // Legends: the signs of a panel, patched one by one as they are reported, and drawn.
+#![tactic(auto)]
+
 mod call;
 mod histories;
 mod laws;

@@ -1,4 +1,6 @@
 // Tells the incident of one gate on the panel: what a keeper sees after each report, and the end drawn from blank beside it.
+#![tactic(auto)]
+
 mod font;
 mod shown;
 

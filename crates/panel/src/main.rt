@@ -1,4 +1,6 @@
 // Prints how one gate's sign is drawn when the gate is closed and when it is locked, and a row of three gates.
+#![tactic(auto)]
+
 mod gate;
 mod row;
 

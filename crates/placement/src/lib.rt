@@ -1,4 +1,6 @@
 // Lines of signs over any face: classed, mapped, spaced, and their marks placed.
+#![tactic(auto)]
+
 mod bounded;
 mod classes;
 mod classing;

@@ -1,4 +1,6 @@
 // Places one mark on one base for each line of standard input; the stored output is what the original answers.
+#![tactic(auto)]
+
 mod cases;
 #[cfg(test)]
 mod line_tests;

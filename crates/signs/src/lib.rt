@@ -1,4 +1,6 @@
 // Signs: the numbers of one sign of a line, checked signs, what they say, and the classes of marks.
+#![tactic(auto)]
+
 mod classes;
 mod laws;
 mod props;

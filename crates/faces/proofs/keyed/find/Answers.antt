@@ -6,14 +6,14 @@ use Rattle.faces.proofs.keyed.find.Goals.{then-place-rows+else-key-wanted, else-
 
 pub returns-then-key-wanted : goal.returns-then-key-wanted
 returns-then-key-wanted g c =
-    first_only g.T.Keyed.key_of c.args.wanted c.args.rows.now c.place-of-place.result _ c.if-place-rows.true c.index-rows-place.is (sym c.key.ensures ∙ c.if-key-wanted.true) c.place-of-place.ensures
+    first_only g.T.Keyed.key_of c.args.wanted c.args.rows.now c.place_of-place.result _ c.if-place-rows.true c.index-rows-place.is (sym c.key.ensures ∙ c.if-key-wanted.true) c.place_of-place.ensures
 
 pub returns : goal.returns
 returns g c =
     let key = g.T.Keyed.key_of in
     let rows = c.args.rows.now in
     first_none key c.args.wanted rows (λ k less found.
-    let s : k ≡ c.place-of-place.result = c.place-of-place.ensures k less found in
+    let s : k ≡ c.place_of-place.result = c.place_of-place.ensures k less found in
     elim c.if-place-rows.branch [
       | then-place-rows+else-key-wanted w ↦ w.if-key-wanted.false (w.key.ensures ∙ key_read key rows _ _ w.if-place-rows.true w.index-rows-place.is ∙ subst (λ n. key_at key rows n ≡ c.args.wanted) s found)
       | else-place-rows w ↦ omega (arith, s, less, w.if-place-rows.false)

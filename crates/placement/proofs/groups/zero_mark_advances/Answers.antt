@@ -8,12 +8,12 @@ use Rattle.placement.proofs.groups.zero_mark_advances.Goals as goal
 pub loop-i-init : goal.loop-i-init
 loop-i-init c = (refl, c.requires.light)
 
-pub zeroed-mark-requires : goal.zeroed-mark-requires
-zeroed-mark-requires c = left_here Light c.loop-i.positions c.loop-i.i (omega arith) c.loop-i.invariant.1 _
+pub zeroed_mark-requires : goal.zeroed_mark-requires
+zeroed_mark-requires c = left_here Light c.loop-i.positions c.loop-i.i (omega arith) c.loop-i.invariant.1 _
 
 pub loop-i-preserved : goal.loop-i-preserved
 loop-i-preserved c = (
-  written_more (zeroed c.args.adjust) c.args.rows.now c.loop-i.positions _ c.loop-i.i _ _ _ c.loop-i-test.true (omega arith) c.zeroed-mark.ensures c.loop-i.invariant.0,
+  written_more (zeroed c.args.adjust) c.args.rows.now c.loop-i.positions _ c.loop-i.i _ _ _ c.loop-i-test.true (omega arith) c.zeroed_mark.ensures c.loop-i.invariant.0,
   left_after Light c.loop-i.positions c.loop-i.i (omega arith) c.loop-i.invariant.1 _,
 )
 

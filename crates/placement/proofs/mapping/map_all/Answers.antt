@@ -9,8 +9,8 @@ loop-i-preserved g c =
     let f = g.F.Face.meaning c.args.face.now in
     let l = c.loop-i in
     let row = map_into_next (map_row f) rows rows l.rows l.i _ c.loop-i-test.true refl l.invariant.0 in (
-      map_into_more (map_row f) rows rows l.rows l.i _ _ c.loop-i-test.true refl l.invariant.0 (c.map-row.ensures ∙ ap (map_row f) row),
-      map_into_more (map_position f c.args.horizontal) rows c.args.positions.now l.positions l.i _ _ c.loop-i-test.true c.requires l.invariant.1 (c.map-position.ensures ∙ ap (map_position f c.args.horizontal) row),
+      map_into_more (map_row f) rows rows l.rows l.i _ _ c.loop-i-test.true refl l.invariant.0 (c.map_row.ensures ∙ ap (map_row f) row),
+      map_into_more (map_position f c.args.horizontal) rows c.args.positions.now l.positions l.i _ _ c.loop-i-test.true c.requires l.invariant.1 (c.map_position.ensures ∙ ap (map_position f c.args.horizontal) row),
     )
 
 pub returns : goal.returns

@@ -10,5 +10,5 @@ returns c =
     let edge = c.args.run.top in
     let x : ℤ = again (again (again edge +ℤ to_z w32 c.args.gap) -ℤ again (to_z w16 (of_z w16 c.bottom.result))) in
     let y : ℤ = edge +ℤ pos c.args.gap -ℤ c.args.mark.bottom in
-    let t = called half_sunk half_sunk_within x y c.half-sinking.ensures (omega (arith, ints)) (omega (arith, ints), omega (arith, ints)) in
+    let t = called half_sunk half_sunk_within x y c.half_sinking.ensures (omega (arith, ints)) (omega (arith, ints), omega (arith, ints)) in
     record { value = t.0; near = t.1 }

@@ -10,5 +10,5 @@ returns c =
     let edge = c.args.run.bottom in
     let x : ℤ = again (again (again edge -ℤ to_z w32 c.args.gap) -ℤ again (to_z w16 (of_z w16 c.top.result))) in
     let y : ℤ = edge -ℤ pos c.args.gap -ℤ c.args.mark.top in
-    let t = called unlifted unlifted_within x y c.never-lifted.ensures (omega (arith, ints)) (omega (arith, ints), omega (arith, ints)) in
+    let t = called unlifted unlifted_within x y c.never_lifted.ensures (omega (arith, ints)) (omega (arith, ints), omega (arith, ints)) in
     record { value = t.0; near = t.1 }

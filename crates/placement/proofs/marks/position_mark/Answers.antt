@@ -14,14 +14,14 @@ returns-in-Some-Below c =
     let m = edges_of c.args.mark in
     let class = c.args.class in
     let room = c.requires.room in
-    let stood = c.below-offset-y.ensures in
-    let fx : SFits w32 c.x-offset-x.result = search rules in
+    let stood = c.below_offset-y.ensures in
+    let fx : SFits w32 c.x_offset-x.result = search rules in
     assembled.below run m (gap_before c.args.gap class) (way class) (align class c.args.direction)
-    (again_same _ fx ∙ c.x-offset-x.ensures ∙ ap (x_of run m) c.align-of.ensures)
+    (again_same _ fx ∙ c.x_offset-x.ensures ∙ ap (x_of run m) c.align_of.ensures)
     (again_same run.left (omega (arith, ints)))
     (again_same run.width (omega (arith, ints)))
     (search rules)
-    (again_same c.below-offset-y.result (omega (arith, ints)) ∙ stood.value ∙ ap (λ n. y_of run m n (Some Below)) c.gap-before-gap.ensures.value)
+    (again_same c.below_offset-y.result (omega (arith, ints)) ∙ stood.value ∙ ap (λ n. y_of run m n (Some Below)) c.gap_before-gap.ensures.value)
     (omega (arith, ints))
     (again_same run.top (omega (arith, ints)))
 
@@ -31,13 +31,13 @@ returns-in-Some-Above c =
     let m = edges_of c.args.mark in
     let class = c.args.class in
     let room = c.requires.room in
-    let stood = c.above-offset-y.ensures in
-    let fx : SFits w32 c.x-offset-x.result = search rules in
+    let stood = c.above_offset-y.ensures in
+    let fx : SFits w32 c.x_offset-x.result = search rules in
     assembled.above run m (gap_before c.args.gap class) (way class) (align class c.args.direction)
-    (again_same _ fx ∙ c.x-offset-x.ensures ∙ ap (x_of run m) c.align-of.ensures)
+    (again_same _ fx ∙ c.x_offset-x.ensures ∙ ap (x_of run m) c.align_of.ensures)
     (again_same run.left (omega (arith, ints)))
     (again_same run.width (omega (arith, ints)))
     (search rules)
-    (again_same c.above-offset-y.result (omega (arith, ints)) ∙ stood.value ∙ ap (λ n. y_of run m n (Some Above)) c.gap-before-gap.ensures.value)
+    (again_same c.above_offset-y.result (omega (arith, ints)) ∙ stood.value ∙ ap (λ n. y_of run m n (Some Above)) c.gap_before-gap.ensures.value)
     (omega (arith, ints))
     (again_same run.bottom (omega (arith, ints)))

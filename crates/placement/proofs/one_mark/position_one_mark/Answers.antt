@@ -11,9 +11,9 @@ returns g c =
     let a = c.args in
     let run = c.in-Some.run' in
     let m = edges_of c.in-Some-bounds.bounds in
-    let e = one_placed_lem f a.base a.mark a.class a.direction run m c.position-mark.result
+    let e = one_placed_lem f a.base a.mark a.class a.direction run m c.position_mark.result
     (sym c.in-Some.ensures.value)
     (sym c.in-Some-bounds.ensures)
     (ne_eqb _ _ c.if-class-eq0.false)
-    (c.position-mark.ensures ∙ ap (λ n. placed run m (n / 16) a.class a.direction) c.em.ensures) in
+    (c.position_mark.ensures ∙ ap (λ n. placed run m (n / 16) a.class a.direction) c.em.ensures) in
     record { value = e; kept = one_kept f a.base a.mark a.class a.direction _ e }

@@ -11,17 +11,17 @@ IsGlyph r = r.code ≤ 65535
 
 pub loop-i-init : goal.loop-i-init
 loop-i-init g c =
-    λ long. reached_first (g.F.Face.meaning c.args.face.now) c.args.settings c.args.rows.now c.args.positions.now long c.base-after-i.result
-    (c.base-after-i.ensures.value ∙ zero-add (marks c.args.rows.now)) c.base-after-i.ensures.ends.1
+    λ long. reached_first (g.F.Face.meaning c.args.face.now) c.args.settings c.args.rows.now c.args.positions.now long c.base_after-i.result
+    (c.base_after-i.ensures.value ∙ zero-add (marks c.args.rows.now)) c.base_after-i.ensures.ends.1
 
-pub position-around-base-requires : goal.position-around-base-requires
-position-around-base-requires g c =
+pub position_around_base-requires : goal.position_around_base-requires
+position_around_base-requires g c =
     let i = c.loop-i.i in
-    let k = c.base-after-j.result - i in
+    let k = c.base_after-j.result - i in
     let rest = (c.loop-i.invariant c.requires.long).rest in
     let long = c.requires.long in
     let few = c.requires.few in
-    let ends = c.base-after-j.ensures.ends in
+    let ends = c.base_after-j.ensures.ends in
     record {
       some = simp (length-take, length-drop) (omega arith);
       long = simp (length-take, length-drop) (omega arith);
@@ -32,8 +32,8 @@ position-around-base-requires g c =
 
 pub loop-i-preserved : goal.loop-i-preserved
 loop-i-preserved g c =
-    λ long. reached_more (g.F.Face.meaning c.args.face.now) c.args.settings c.args.rows.now c.args.positions.now long c.loop-i.i c.base-after-j.result c.loop-i.positions _
-    c.loop-i-test.true c.base-after-j.ensures.value c.base-after-j.ensures.ends.1 (omega arith) (c.loop-i.invariant long) c.position-around-base.ensures
+    λ long. reached_more (g.F.Face.meaning c.args.face.now) c.args.settings c.args.rows.now c.args.positions.now long c.loop-i.i c.base_after-j.result c.loop-i.positions _
+    c.loop-i-test.true c.base_after-j.ensures.value c.base_after-j.ensures.ends.1 (omega arith) (c.loop-i.invariant long) c.position_around_base.ensures
 
 pub returns : goal.returns
 returns g c =

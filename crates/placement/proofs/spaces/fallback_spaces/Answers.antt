@@ -6,7 +6,7 @@ use Rattle.placement.proofs.spaces.fallback_spaces.Goals as goal
 pub loop-i-preserved : goal.loop-i-preserved
 loop-i-preserved g c =
     let out = spaced_along (g.F.Face.meaning c.args.face.now) c.args.horizontal in
-    written_more out c.args.rows.now c.loop-i.positions _ c.loop-i.i _ _ _ c.loop-i-test.true (omega arith) c.space-position.ensures c.loop-i.invariant
+    written_more out c.args.rows.now c.loop-i.positions _ c.loop-i.i _ _ _ c.loop-i-test.true (omega arith) c.space_position.ensures c.loop-i.invariant
 
 pub returns : goal.returns
 returns g c =

@@ -8,8 +8,8 @@ pub returns-in-Some : goal.returns-in-Some
 returns-in-Some g c =
     let f = g.F.Face.meaning c.args.face.now in
     let i = c.loop-i.i in
-    let fits : SFits w32 c.advance-along.result = search rules in
-    ap (λ (a : ℤ). Some a) (again_same _ fits ∙ c.advance-along.ensures)
+    let fits : SFits w32 c.advance_along.result = search rules in
+    ap (λ (a : ℤ). Some a) (again_same _ fits ∙ c.advance_along.ensures)
     ∙ first_found f c.args.horizontal (c.args.first + i) (c.args.count - i) (c.args.count - (i + 1)) c.in-Some.glyph (omega arith) c.in-Some.ensures
     ∙ c.loop-i.invariant
 
@@ -19,7 +19,7 @@ loop-i-preserved g c =
     let i = c.loop-i.i in
     let e : c.args.first + (i + 1) ≡ c.args.first + i + 1 = omega arith in
     ap (λ (k : ℕ). first_of f c.args.horizontal k (c.args.count - (i + 1))) e
-    ∙ first_next f c.args.horizontal (c.args.first + i) (c.args.count - i) (c.args.count - (i + 1)) (omega arith) c.in-default.ensures
+    ∙ first_next f c.args.horizontal (c.args.first + i) (c.args.count - i) (c.args.count - (i + 1)) (omega arith) c.in_default.ensures
     ∙ c.loop-i.invariant
 
 pub returns : goal.returns

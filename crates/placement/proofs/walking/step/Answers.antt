@@ -14,7 +14,7 @@ settle-requires g c =
     let b : Base = record { row = row_of a.base; extents = a.extents } in
     let r = read_row a.row in
     let em = c.read-mark.ensures in
-    let ev = entered_is f a.settings b a.walk r a.position em (c.class-class.ensures ∙ ap class em) c.to-component.ensures c.to-run-entered.ensures in
+    let ev = entered_is f a.settings b a.walk r a.position em (c.class-class.ensures ∙ ap class em) c.to_component.ensures c.to_run-entered.ensures in
     record { near = subst (Near 256) (sym ev) (near_entered a.settings b c.requires.base 256 r a.walk c.requires.near); light = c.requires.light }
 
 pub returns-then-class-eq0 : goal.returns-then-class-eq0
@@ -24,7 +24,7 @@ returns-then-class-eq0 g c =
     let b : Base = record { row = row_of a.base; extents = a.extents } in
     let e = sym (c.class-class.ensures ∙ ap class c.read-mark.ensures) ∙ c.if-class-eq0.true in
     record {
-      walk = c.pass.ensures ∙ ap (λ (t : Bool). passed t a.walk a.position) c.is-forward.ensures ∙ zero_next f a.settings b a.walk (read_row a.row) a.position e;
+      walk = c.pass.ensures ∙ ap (λ (t : Bool). passed t a.walk a.position) c.is_forward.ensures ∙ zero_next f a.settings b a.walk (read_row a.row) a.position e;
       position = zero_out f a.settings b a.walk (read_row a.row) a.position e;
     }
 
@@ -36,7 +36,7 @@ returns g c =
     let r = read_row a.row in
     let em = c.read-mark.ensures in
     let ek = c.class-class.ensures ∙ ap class em in
-    let ev = entered_is f a.settings b a.walk r a.position em ek c.to-component.ensures c.to-run-entered.ensures in
+    let ev = entered_is f a.settings b a.walk r a.position em ek c.to_component.ensures c.to_run-entered.ensures in
     record {
       walk = c.settle.ensures.walk ∙ other_next f a.settings b a.walk r a.position (λ h. c.if-class-eq0.false (ek ∙ h)) ek ev;
       position = c.settle.ensures.position ∙ other_out f a.settings b a.walk r a.position (λ h. c.if-class-eq0.false (ek ∙ h)) ek ev;

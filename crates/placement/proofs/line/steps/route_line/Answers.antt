@@ -13,14 +13,14 @@ use Rattle.placement.proofs.ByGroups.{in_order}
 use Rattle.placement.proofs.Routing.{mapped_rows, rows_are, spaces_are, cells_routed, spaced_long, routed_glyphs, routed_light}
 use Rattle.placement.proofs.line.steps.route_line.Goals as goal
 
-pub position-marks-requires : goal.position-marks-requires
-position-marks-requires g c =
+pub position_marks-requires : goal.position_marks-requires
+position_marks-requires g c =
     let f = g.F.Face.meaning c.args.face.now in
     let keeps = g.F.Face.keeps c.args.face.now in
     let s = c.args.settings in
     let rows = c.args.rows.now in
-    let er = rows_are f s rows c.class-all.ensures c.map-all.ensures.rows in
-    let es = spaces_are f s rows c.class-all.ensures c.is-horizontal-horizontal.ensures c.map-all.ensures.rows c.map-all.ensures.positions c.fallback-spaces.ensures in
+    let er = rows_are f s rows c.class_all.ensures c.map_all.ensures.rows in
+    let es = spaces_are f s rows c.class_all.ensures c.is_horizontal-horizontal.ensures c.map_all.ensures.rows c.map_all.ensures.positions c.fallback_spaces.ensures in
     let few = leb-true (length rows) 256 (and_parts (leb (length rows) 256) _ (sym c.if-not-fitting.ensures)).0 in
     record {
       long = ap length es ∙ spaced_long f s rows ∙ sym (ap length er);
@@ -34,14 +34,14 @@ returns g c =
     let f = g.F.Face.meaning c.args.face.now in
     let s = c.args.settings in
     let rows = c.args.rows.now in
-    let er = rows_are f s rows c.class-all.ensures c.map-all.ensures.rows in
-    let es = spaces_are f s rows c.class-all.ensures c.is-horizontal-horizontal.ensures c.map-all.ensures.rows c.map-all.ensures.positions c.fallback-spaces.ensures in
+    let er = rows_are f s rows c.class_all.ensures c.map_all.ensures.rows in
+    let es = spaces_are f s rows c.class_all.ensures c.is_horizontal-horizontal.ensures c.map_all.ensures.rows c.map_all.ensures.positions c.fallback_spaces.ensures in
     record {
       answer = sym (cond-true _ _ _ (sym c.if-not-fitting.ensures));
       rows = er ∙ map-map (map_row f) reclassed rows ∙ sym (in_order f s rows);
       positions =
-          c.position-marks.ensures
-          ∙ ap (λ (x : List SignRow). positions_of (placed_line f s (cells x c.fallback-spaces.new.positions))) er
+          c.position_marks.ensures
+          ∙ ap (λ (x : List SignRow). positions_of (placed_line f s (cells x c.fallback_spaces.new.positions))) er
           ∙ ap (λ (x : List Position). positions_of (placed_line f s (cells (mapped_rows f s rows) x))) es
           ∙ ap (λ (x : List Cell). positions_of (placed_line f s x)) (cells_routed f s rows);
     }
