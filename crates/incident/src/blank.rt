@@ -16,7 +16,7 @@ pub fn from_blank<F: Face>(
     settings: Settings,
     signs: [SignRow; 2],
 ) -> Result<[Item; 2], Refusal>
-    ensures { IsOkAnd result (λ items. items ≡ from_blank (meaning face.now) (book_of settings signs)) }
+    ensures { IsOkAnd result (λ items. items ≡ from_blank (F.meaning face.now) (book_of settings signs)) }
 {
     let _ = lines_stand();
     let _ = look_stands();

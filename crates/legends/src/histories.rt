@@ -34,7 +34,7 @@ fn obey<F: Face>(
     requires room { (legend.old.len ≤ length items.old) × (legend.old.len ≤ length pens.old) }
     requires bounded { bounded mapped.old positions.old ≡ true }
     ensures answer { result ≡ answer_to legend.old.len call }
-    ensures lists { at legend.exit signs.exit mapped.exit positions.exit ≡ leaves (meaning face.now) call (at legend.entry signs.entry mapped.entry positions.entry) }
+    ensures lists { at legend.exit signs.exit mapped.exit positions.exit ≡ leaves (F.meaning face.now) call (at legend.entry signs.entry mapped.entry positions.entry) }
     ensures items { items.new ≡ (if is_ok result then drawn_by call (at legend.entry signs.entry mapped.entry positions.entry) items.old else items.old) }
 {
     match call {
@@ -62,10 +62,10 @@ pub fn look_after<F: Face>(
     pens: &mut [Pen],
 ) -> Result<Legend, Refusal>
     ensures answer { result ≡ look_answer len calls.now (length signs.old) (length mapped.old) (length positions.old) (length items.old) (length pens.old) }
-    ensures lists { lists signs.new mapped.new positions.new ≡ (if is_ok result then lists_of (left_by (meaning face.now) len calls.now) else lists signs.old mapped.old positions.old) }
-    ensures items { items.new ≡ (if is_ok result then from_blank (meaning face.now) (book_after len calls.now) ++ drop len items.old else items.old) }
+    ensures lists { lists signs.new mapped.new positions.new ≡ (if is_ok result then lists_of (left_by (F.meaning face.now) len calls.now) else lists signs.old mapped.old positions.old) }
+    ensures items { items.new ≡ (if is_ok result then from_blank (F.meaning face.now) (book_after len calls.now) ++ drop len items.old else items.old) }
     ensures pens { PensAfter (is_ok result) pens.old pens.new }
-    ensures look { is_ok result ≡ true → Look (meaning face.now) len calls.now items.new }
+    ensures look { is_ok result ≡ true → Look (F.meaning face.now) len calls.now items.new }
 {
     if !fitting(len, signs.len(), mapped.len(), positions.len()) {
         return Err(Refusal::Length);

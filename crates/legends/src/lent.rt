@@ -35,7 +35,7 @@ pub(crate) fn put_lent<F: Face>(
 ) -> Result<(), Refusal>
     requires { Fit legend.now.len (length signs.old) (length mapped.old) (length positions.old) }
     ensures answer { result ≡ answer_to legend.now.len (Put lent place row) }
-    ensures lists { at legend.entry signs.exit mapped.exit positions.exit ≡ leaves (meaning face.now) (Put lent place row) (at legend.entry signs.entry mapped.entry positions.entry) }
+    ensures lists { at legend.entry signs.exit mapped.exit positions.exit ≡ leaves (F.meaning face.now) (Put lent place row) (at legend.entry signs.entry mapped.entry positions.entry) }
 {
     let end = reach(legend.len, lent);
     legend.put(
@@ -59,7 +59,7 @@ pub(crate) fn turn_lent<F: Face>(
 ) -> Result<(), Refusal>
     requires { Fit legend.old.len (length signs.now) (length mapped.old) (length positions.old) }
     ensures answer { result ≡ answer_to legend.old.len (Turn lent settings) }
-    ensures lists { at legend.exit signs.entry mapped.exit positions.exit ≡ leaves (meaning face.now) (Turn lent settings) (at legend.entry signs.entry mapped.entry positions.entry) }
+    ensures lists { at legend.exit signs.entry mapped.exit positions.exit ≡ leaves (F.meaning face.now) (Turn lent settings) (at legend.entry signs.entry mapped.entry positions.entry) }
 {
     let end = reach(legend.len, lent);
     legend.turn(

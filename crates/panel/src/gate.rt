@@ -29,7 +29,7 @@ pub struct GateSign {
 
 // The sign of a letter with a bar of a class; none where the face lacks a glyph or a box.
 pub fn gate_sign<F: Face>(face: &F, letter: u32, bar: u32, class: u8) -> Option<GateSign>
-    ensures { result ≡ sign_of (meaning face.now) letter bar class }
+    ensures { result ≡ sign_of (F.meaning face.now) letter bar class }
 {
     let Some(letter) = face.glyph(letter) else {
         return None;

@@ -67,7 +67,7 @@ pub(crate) fn base_box<F: Face>(
 ) -> Extents
     requires glyph { row.code ≤ 65535 }
     requires light { Light position }
-    ensures value { result ≡ (base_at (meaning face.now) (cell row position) (edges_of bounds)).extents }
+    ensures value { result ≡ (base_at (F.meaning face.now) (cell row position) (edges_of bounds)).extents }
     ensures spans { Spans 40032768 result }
 {
     Extents {
@@ -121,7 +121,7 @@ pub(crate) fn position_along<F: Face>(
     requires base { Spans 40032768 extents }
     requires known { Known (record { row = row_of base; extents = extents }) start }
     requires near { Near 0 start }
-    ensures { positions.new ≡ positions_of (walked (meaning face.now) settings (record { row = row_of base; extents = extents }) start (cells rows.now positions.old)) }
+    ensures { positions.new ≡ positions_of (walked (F.meaning face.now) settings (record { row = row_of base; extents = extents }) start (cells rows.now positions.old)) }
 {
     let mut walk = start;
     for i in 0..rows.len() {

@@ -8,7 +8,7 @@ use signs::{Sign, SignRow};
 
 // The glyph that stands for a code: 0 if the face has none.
 fn glyph_for<F: Face>(face: &F, code: u32) -> u16
-    ensures { result ≡ glyph_for (meaning face.now) code }
+    ensures { result ≡ glyph_for (F.meaning face.now) code }
 {
     match face.glyph(code) {
         Some(glyph) => glyph,
@@ -18,7 +18,7 @@ fn glyph_for<F: Face>(face: &F, code: u32) -> u16
 
 // The advance of a glyph along the line.
 pub(crate) fn advance_along<F: Face>(face: &F, horizontal: bool, glyph: u16) -> i32
-    ensures { result ≡ along (meaning face.now) horizontal glyph }
+    ensures { result ≡ along (F.meaning face.now) horizontal glyph }
 {
     if horizontal {
         face.across(glyph) as i32
@@ -28,7 +28,7 @@ pub(crate) fn advance_along<F: Face>(face: &F, horizontal: bool, glyph: u16) -> 
 }
 
 fn map_row<F: Face>(face: &F, row: SignRow) -> SignRow
-    ensures { result ≡ map_row (meaning face.now) row }
+    ensures { result ≡ map_row (F.meaning face.now) row }
 {
     let read = Sign::read(row).row();
     SignRow {
@@ -40,7 +40,7 @@ fn map_row<F: Face>(face: &F, row: SignRow) -> SignRow
 }
 
 fn map_position<F: Face>(face: &F, horizontal: bool, row: SignRow) -> Position
-    ensures { result ≡ map_position (meaning face.now) horizontal row }
+    ensures { result ≡ map_position (F.meaning face.now) horizontal row }
 {
     let advance = advance_along(face, horizontal, glyph_for(face, row.code));
     if horizontal {
@@ -67,8 +67,8 @@ pub(crate) fn map_all<F: Face>(
     positions: &mut [Position],
 )
     requires { length positions.old ≡ length rows.old }
-    ensures rows { rows.new ≡ map (map_row (meaning face.now)) rows.old }
-    ensures positions { positions.new ≡ map (map_position (meaning face.now) horizontal) rows.old }
+    ensures rows { rows.new ≡ map (map_row (F.meaning face.now)) rows.old }
+    ensures positions { positions.new ≡ map (map_position (F.meaning face.now) horizontal) rows.old }
 {
     for i in 0..rows.len() {
         let row = rows[i];

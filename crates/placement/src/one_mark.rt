@@ -10,7 +10,7 @@ use faces::Face;
 
 // The box of a base: as wide as its advance, as high as its own box.
 fn base_extents<F: Face>(face: &F, base: u16) -> Option<Extents>
-    ensures value { result ≡ base_of (meaning face.now) base }
+    ensures value { result ≡ base_of (F.meaning face.now) base }
     ensures room { AllRoom result }
 {
     let Some(bounds) = face.bounds(base) else {
@@ -33,8 +33,8 @@ pub fn position_one_mark<F: Face>(
     class: u8,
     direction: Direction,
 ) -> Option<PlacedMark>
-    ensures value { result ≡ one_placed (meaning face.now) base mark class direction }
-    ensures kept { OneKept (meaning face.now) base mark class direction result }
+    ensures value { result ≡ one_placed (F.meaning face.now) base mark class direction }
+    ensures kept { OneKept (F.meaning face.now) base mark class direction result }
 {
     if class == 0 {
         return None;

@@ -23,7 +23,7 @@ fn position_around_base<F: Face>(
     requires few { length rows.now ≤ 256 }
     requires glyphs { AllGlyphs rows.now }
     requires light { AllLight positions.old }
-    ensures { positions.new ≡ positions_of (group (meaning face.now) settings (cells rows.now positions.old)) }
+    ensures { positions.new ≡ positions_of (group (F.meaning face.now) settings (cells rows.now positions.old)) }
 {
     let n = rows.len();
     let base = Sign::read(rows[0]);
@@ -81,7 +81,7 @@ pub(crate) fn position_marks<F: Face>(
     requires few { length rows.now ≤ 256 }
     requires glyphs { AllGlyphs rows.now }
     requires light { AllLight positions.old }
-    ensures { positions.new ≡ positions_of (placed_line (meaning face.now) settings (cells rows.now positions.old)) }
+    ensures { positions.new ≡ positions_of (placed_line (F.meaning face.now) settings (cells rows.now positions.old)) }
 {
     let n = rows.len();
     let mut i = base_after(rows, 0);

@@ -24,7 +24,7 @@ fn sized(horizontal: bool, units: u32) -> i32
 // The advance of the first of some codes that has a glyph.
 fn first_advance<F: Face>(face: &F, horizontal: bool, first: u32, count: u32) -> Option<i32>
     requires { first + count ≤ 2 ^ 32 }
-    ensures { result ≡ first_of (meaning face.now) horizontal first count }
+    ensures { result ≡ first_of (F.meaning face.now) horizontal first count }
 {
     for i in 0..count {
         if let Some(glyph) = face.glyph(first + i) {
@@ -42,7 +42,7 @@ fn is_fraction(space: u8) -> bool
 
 // The advance that a type of space has of its own.
 fn own_advance<F: Face>(face: &F, horizontal: bool, space: u8) -> Option<i32>
-    ensures { result ≡ own_advance (meaning face.now) horizontal space }
+    ensures { result ≡ own_advance (F.meaning face.now) horizontal space }
 {
     let em = face.em() as u32;
     if is_fraction(space) {
@@ -95,7 +95,7 @@ fn halved(horizontal: bool, position: Position) -> Position
 
 // The position of a space by its type.
 fn respace<F: Face>(face: &F, horizontal: bool, space: u8, position: Position) -> Position
-    ensures { result ≡ respaced (meaning face.now) horizontal space position }
+    ensures { result ≡ respaced (F.meaning face.now) horizontal space position }
 {
     if space == 21 {
         return halved(horizontal, position);
@@ -107,7 +107,7 @@ fn respace<F: Face>(face: &F, horizontal: bool, space: u8, position: Position) -
 }
 
 fn space_position<F: Face>(face: &F, horizontal: bool, row: SignRow, position: Position) -> Position
-    ensures { result ≡ space_position (meaning face.now) horizontal (read_row row) position }
+    ensures { result ≡ space_position (F.meaning face.now) horizontal (read_row row) position }
 {
     let sign = Sign::read(row);
     if sign.is_space() && !sign.is_ligated() {
@@ -124,7 +124,7 @@ pub(crate) fn fallback_spaces<F: Face>(
     positions: &mut [Position],
 )
     requires { length positions.old ≡ length rows.now }
-    ensures { positions.new ≡ positions_of (map (spaced_along (meaning face.now) horizontal) (cells rows.now positions.old)) }
+    ensures { positions.new ≡ positions_of (map (spaced_along (F.meaning face.now) horizontal) (cells rows.now positions.old)) }
 {
     for i in 0..rows.len() {
         positions[i] = space_position(face, horizontal, rows[i], positions[i]);

@@ -127,8 +127,8 @@ fn settle<F: Face>(
 ) -> Stepped
     requires near { Near 256 walk }
     requires light { Light position }
-    ensures walk { result.walk ≡ settled_walk (meaning face.now) settings walk class (ink ((meaning face.now).bounds glyph)) }
-    ensures position { result.position ≡ settled (meaning face.now) settings walk class (ink ((meaning face.now).bounds glyph)) position }
+    ensures walk { result.walk ≡ settled_walk (F.meaning face.now) settings walk class (ink ((F.meaning face.now).bounds glyph)) }
+    ensures position { result.position ≡ settled (F.meaning face.now) settings walk class (ink ((F.meaning face.now).bounds glyph)) position }
 {
     let Some(bounds) = face.bounds(glyph) else {
         return Stepped {
@@ -158,8 +158,8 @@ pub(crate) fn step<F: Face>(
     requires known { Known (record { row = row_of base; extents = extents }) walk }
     requires near { Near 256 walk }
     requires light { Light position }
-    ensures walk { result.walk ≡ next (meaning face.now) settings (record { row = row_of base; extents = extents }) walk (cell (read_row row) position) }
-    ensures position { result.position ≡ (out (meaning face.now) settings (record { row = row_of base; extents = extents }) walk (cell (read_row row) position)).position }
+    ensures walk { result.walk ≡ next (F.meaning face.now) settings (record { row = row_of base; extents = extents }) walk (cell (read_row row) position) }
+    ensures position { result.position ≡ (out (F.meaning face.now) settings (record { row = row_of base; extents = extents }) walk (cell (read_row row) position)).position }
 {
     let mark = Sign::read(row);
     let class = mark.class();

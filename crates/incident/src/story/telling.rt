@@ -26,7 +26,7 @@ fn seen(legend: &Legend, signs: &[SignRow], mapped: &[SignRow], positions: &[Pos
 
 // Makes a legend of two signs, puts the letter, reports it locked, then closed, and turns it; each time the keeper looks.
 pub fn tell<F: Face>(face: &F) -> Result<Story, Refusal>
-    ensures { IsOkAnd result (Told (meaning face.now)) }
+    ensures { IsOkAnd result (Told (F.meaning face.now)) }
 {
     let mut signs = [NO_SIGN; 2];
     let mut mapped = [NO_SIGN; 2];

@@ -37,8 +37,8 @@ impl Legend {
         positions: &mut [Position],
     ) -> Result<Legend, Refusal>
         ensures answer { result ≡ make_answer len (length signs.old) (length mapped.old) (length positions.old) }
-        ensures lists { lists signs.new mapped.new positions.new ≡ (if is_ok result then lists_of (after_make (meaning face.now) len) else lists signs.old mapped.old positions.old) }
-        ensures made { Made result signs.new mapped.new positions.new (after_make (meaning face.now) len) }
+        ensures lists { lists signs.new mapped.new positions.new ≡ (if is_ok result then lists_of (after_make (F.meaning face.now) len) else lists signs.old mapped.old positions.old) }
+        ensures made { Made result signs.new mapped.new positions.new (after_make (F.meaning face.now) len) }
     {
         if !fitting(len, signs.len(), mapped.len(), positions.len()) {
             return Err(Refusal::Length);
@@ -65,8 +65,8 @@ impl Legend {
         row: SignRow,
     ) -> Result<(), Refusal>
         ensures answer { result ≡ put_answer place (at self.entry signs.entry mapped.entry positions.entry) }
-        ensures lists { at self.entry signs.exit mapped.exit positions.exit ≡ left_if (is_ok result) (after_put (meaning face.now) place row) (at self.entry signs.entry mapped.entry positions.entry) }
-        ensures step { InStep (meaning face.now) (at self.entry signs.entry mapped.entry positions.entry) → InStep (meaning face.now) (at self.entry signs.exit mapped.exit positions.exit) }
+        ensures lists { at self.entry signs.exit mapped.exit positions.exit ≡ left_if (is_ok result) (after_put (F.meaning face.now) place row) (at self.entry signs.entry mapped.entry positions.entry) }
+        ensures step { InStep (F.meaning face.now) (at self.entry signs.entry mapped.entry positions.entry) → InStep (F.meaning face.now) (at self.entry signs.exit mapped.exit positions.exit) }
     {
         if !fitting(self.len, signs.len(), mapped.len(), positions.len()) {
             return Err(Refusal::Length);
@@ -97,7 +97,7 @@ impl Legend {
         settings: Settings,
     ) -> Result<(), Refusal>
         ensures answer { result ≡ turn_answer (at self.entry signs.entry mapped.entry positions.entry) }
-        ensures lists { at self.exit signs.entry mapped.exit positions.exit ≡ left_if (is_ok result) (after_turn (meaning face.now) settings) (at self.entry signs.entry mapped.entry positions.entry) }
+        ensures lists { at self.exit signs.entry mapped.exit positions.exit ≡ left_if (is_ok result) (after_turn (F.meaning face.now) settings) (at self.entry signs.entry mapped.entry positions.entry) }
     {
         if !fitting(self.len, signs.len(), mapped.len(), positions.len()) {
             return Err(Refusal::Length);

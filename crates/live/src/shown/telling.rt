@@ -11,7 +11,7 @@ use placement::{Direction, Settings};
 
 // Over any face it is never refused.
 pub fn over<F: Face>(face: &F) -> Result<Shown, Refusal>
-    ensures { IsOkAnd result (ShownOver (meaning face.now)) }
+    ensures { IsOkAnd result (ShownOver (F.meaning face.now)) }
 {
     let story = tell(face)?;
     let settings = Settings {

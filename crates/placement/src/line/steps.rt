@@ -65,8 +65,8 @@ impl Classed {
         positions: &mut [Position],
     ) -> Result<Mapped, Refused<Classed>>
         ensures answer { result ≡ map_answer self (length rows.old) (length positions.old) }
-        ensures rows { rows.new ≡ (if is_ok result then map (map_row (meaning face.now)) rows.old else rows.old) }
-        ensures positions { positions.new ≡ (if is_ok result then map (map_position (meaning face.now) (is_horizontal self.settings.direction)) rows.old else positions.old) }
+        ensures rows { rows.new ≡ (if is_ok result then map (map_row (F.meaning face.now)) rows.old else rows.old) }
+        ensures positions { positions.new ≡ (if is_ok result then map (map_position (F.meaning face.now) (is_horizontal self.settings.direction)) rows.old else positions.old) }
     {
         if !fitting(self.len, rows.len(), positions.len()) {
             return Err(Refused {
@@ -90,7 +90,7 @@ impl Mapped {
         positions: &mut [Position],
     ) -> Result<Spaced, Refused<Mapped>>
         ensures answer { result ≡ space_answer self rows.now positions.old }
-        ensures positions { positions.new ≡ (if is_ok result then positions_of (map (spaced_along (meaning face.now) (is_horizontal self.settings.direction)) (cells rows.now positions.old)) else positions.old) }
+        ensures positions { positions.new ≡ (if is_ok result then positions_of (map (spaced_along (F.meaning face.now) (is_horizontal self.settings.direction)) (cells rows.now positions.old)) else positions.old) }
     {
         if !fitting(self.len, rows.len(), positions.len()) {
             return Err(Refused {
@@ -120,7 +120,7 @@ impl Spaced {
         positions: &mut [Position],
     ) -> Result<Placed, Refused<Spaced>>
         ensures answer { result ≡ place_answer self rows.now positions.old }
-        ensures positions { positions.new ≡ (if is_ok result then positions_of (placed_line (meaning face.now) self.settings (cells rows.now positions.old)) else positions.old) }
+        ensures positions { positions.new ≡ (if is_ok result then positions_of (placed_line (F.meaning face.now) self.settings (cells rows.now positions.old)) else positions.old) }
     {
         if !fitting(self.len, rows.len(), positions.len()) {
             return Err(Refused {
@@ -148,8 +148,8 @@ pub fn route_line<F: Face>(
     positions: &mut [Position],
 ) -> Result<Placed, Refusal>
     ensures answer { result ≡ route_answer settings (length rows.old) (length positions.old) }
-    ensures rows { rows.new ≡ (if is_ok result then rows_of (route (meaning face.now) settings rows.old) else rows.old) }
-    ensures positions { positions.new ≡ (if is_ok result then positions_of (route (meaning face.now) settings rows.old) else positions.old) }
+    ensures rows { rows.new ≡ (if is_ok result then rows_of (route (F.meaning face.now) settings rows.old) else rows.old) }
+    ensures positions { positions.new ≡ (if is_ok result then positions_of (route (F.meaning face.now) settings rows.old) else positions.old) }
 {
     let len = rows.len();
     if !fitting(len, len, positions.len()) {
