@@ -11,7 +11,7 @@ shown_by bar c (Err n) = None
 
 pub returns : goal.returns
 returns c =
-    let face = c.in-ok-face.ensures in
-    let closed : c.gate-sign-closed.result ≡ Some (sign 1 2 (pos 150) (neg_ℤ (pos 122))) = c.gate-sign-closed.ensures ∙ ap (shown_by 0x332 220) face in
-    let locked : c.gate-sign-locked.result ≡ Some (sign 1 2 (pos 150) (pos 762)) = c.gate-sign-locked.ensures ∙ ap (shown_by 0x305 230) face in
-    ap (λ s. Ok (s, c.gate-sign-locked.result)) closed ∙ ap (λ s. Ok (Some (sign 1 2 (pos 150) (neg_ℤ (pos 122))), s)) locked
+    let face = c.in_ok-face.ensures in
+    let closed : c.gate_sign-closed.result ≡ Some (sign 1 2 (pos 150) (neg_ℤ (pos 122))) = c.gate_sign-closed.ensures ∙ ap (shown_by 0x332 220) face in
+    let locked : c.gate_sign-locked.result ≡ Some (sign 1 2 (pos 150) (pos 762)) = c.gate_sign-locked.ensures ∙ ap (shown_by 0x305 230) face in
+    ap (λ s. Ok (s, c.gate_sign-locked.result)) closed ∙ ap (λ s. Ok (Some (sign 1 2 (pos 150) (neg_ℤ (pos 122))), s)) locked
