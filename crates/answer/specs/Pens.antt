@@ -1,5 +1,5 @@
 -- The pen: where a sign lies, and where the pen goes on from.
-use Rattle.std.specs.Prelude.{ℕ, ◌+◌, ◌*◌, ℤ, pos, ◌+ℤ◌, neg_ℤ, ◌≤ℤ◌}
+use Rattle.std.specs.Prelude.{ℕ, ◌*◌, ℤ, pos, ◌+ℤ◌, neg_ℤ, ◌≤ℤ◌}
 use Rattle.placement.specs.declared.Position.{Position}
 use Rattle.signs.specs.declared.SignRow.{SignRow}
 use Rattle.answer.specs.declared.pen.Pen.{Pen}

@@ -1,7 +1,5 @@
 -- What the order of records says, by their places in a list.
-use Rattle.std.specs.Prelude.{◌≡◌, ℕ, ◌<◌, true, List, ◌∷◌, ◌++◌, length, Some, None, Option, ◌≢◌}
-use Rattle.faces.specs.declared.records.GlyphRecord.{GlyphRecord}
-use Rattle.faces.specs.declared.records.CodeRecord.{CodeRecord}
+use Rattle.std.specs.Prelude.{◌≡◌, ℕ, ◌<◌, true, List, ◌∷◌, ◌++◌, length, Some, None, ◌≢◌}
 use Rattle.faces.specs.Keys.{rising, key_at, Rises, first}
 use Rattle.faces.specs.Records.{glyph_key, code_key}
 

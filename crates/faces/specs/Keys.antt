@@ -1,5 +1,5 @@
 -- Lists of records by their keys: strictly rising lists, the first record of a key, a test of every record.
-use Rattle.std.specs.Prelude.{◌≡◌, ℕ, ◌+◌, ◌<◌, Bool, true, cond, ◌&&◌, List, [], ◌∷◌, map, length, Some, None, Option, ◌==◌, nat_le, slice_index}
+use Rattle.std.specs.Prelude.{ℕ, ◌+◌, ◌<◌, Bool, true, cond, ◌&&◌, List, [], ◌∷◌, map, length, Some, None, Option, ◌==◌, nat_le, slice_index}
 
 module _ {X : Type 0} (key : X → ℕ) where
   -- no key is below the low one, and each next key is above the last

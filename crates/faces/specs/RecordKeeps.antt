@@ -1,5 +1,5 @@
 -- A record face keeps the limits of a face.
-use Rattle.std.specs.Prelude.{◌≡◌, ℕ, ◌≤◌, Bool, true, false, cond, not, ◌&&◌, ◌||◌, List, [], ◌∷◌, ℤ, pos, negsuc, neg_ℤ, ◌≤ℤ◌, Some, None, Option, ◌==◌, int_le, nat_le, refl}
+use Rattle.std.specs.Prelude.{◌≡◌, ℕ, ◌≤◌, Bool, true, false, cond, not, ◌||◌, List, [], ◌∷◌, pos, negsuc, ◌≤ℤ◌, Some, None, Option, ◌==◌, int_le, nat_le, refl}
 use Rattle.std.proofs.Common.{sym, ◌∙◌, ⊎_elim, arith}
 use Rattle.std.specs.Int.Signed.{le_z_yes}
 use Rattle.std.proofs.lemmas.Int.{ints}
@@ -7,7 +7,7 @@ use Rattle.std.proofs.lemmas.Bool.{cond-true, cond-false, cases_Bool, and_parts,
 use Rattle.faces.specs.declared.record_face.RecordFace.{RecordFace}
 use Rattle.faces.specs.declared.records.GlyphRecord.{GlyphRecord}
 use Rattle.faces.specs.declared.records.CodeRecord.{CodeRecord}
-use Rattle.faces.specs.Meaning.{Edges, IsEdge, IsBox, Keeps}
+use Rattle.faces.specs.Meaning.{Edges, IsBox, Keeps}
 use Rattle.faces.specs.Straight.{straight}
 use Rattle.faces.specs.Keys.{first, every}
 use Rattle.faces.specs.Records.{glyph_key, code_key, edges_in, glyph_sound, code_sound, glyph_in, across_in, down_in, box_in}

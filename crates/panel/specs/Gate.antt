@@ -1,5 +1,5 @@
 -- The sign of a gate, and the two signs that the panel shows.
-use Rattle.std.specs.Prelude.{ℕ, ℤ, pos, neg_ℤ, Some, None, Ok, Err, Option, Result}
+use Rattle.std.specs.Prelude.{ℕ, ℤ, pos, neg_ℤ, Some, None, Ok, Option, Result}
 use Rattle.faces.specs.Meaning.{FaceMeaning}
 use Rattle.placement.specs.declared.Direction.TheVariants.{LeftToRight}
 use Rattle.placement.specs.declared.PlacedMark.{PlacedMark}

@@ -1,8 +1,8 @@
 -- A walk along the marks of a group, kept within bounds from mark to mark.
-use Rattle.std.proofs.Common.{◌≡◌, ℕ, ◌+◌, ◌/◌, ◌<◌, ◌≤◌, Bool, true, false, cond, eqb, ltb, List, [], ◌∷◌, length, get_or, set, Some, None, Option, sym, refl, ap, ◌∙◌, subst, arith}
+use Rattle.std.proofs.Common.{◌≡◌, ℕ, ◌+◌, ◌<◌, ◌≤◌, Bool, eqb, List, [], ◌∷◌, length, get_or, set, Some, None, Option, sym, refl, ap, ◌∙◌, arith}
 use Rattle.std.proofs.lemmas.Bool.{cond_both, cond-true, cond-false, eq-eqb}
 use Rattle.signs.specs.declared.SignRow.{SignRow}
-use Rattle.signs.specs.Rows.{class, lig_num_comps, read_row}
+use Rattle.signs.specs.Rows.{class, read_row}
 use Rattle.faces.specs.Meaning.{FaceMeaning, Edges, Keeps}
 use Rattle.placement.specs.declared.position.Position.{Position}
 use Rattle.placement.specs.declared.settings.Settings.{Settings}
@@ -14,7 +14,7 @@ use Rattle.placement.specs.OneMark.{gap_of}
 use Rattle.placement.specs.Components.{component}
 use Rattle.placement.specs.Walks.{Base, Known, ink, passed, to_component, to_run, entered, settled_walk, next, out, walked}
 use Rattle.placement.proofs.Nears.{Boxed, near_passed, near_entered, near_settled}
-use Rattle.placement.proofs.Scans.{run, scan, going, scan_is, scan_more, scan_all}
+use Rattle.placement.proofs.Scans.{run, going, scan_is, scan_more, scan_all}
 
 pub boxed_by : (f : FaceMeaning) → Keeps f → (g : ℕ) (o : Option Edges) → f.bounds g ≡ o → Boxed o
 boxed_by f k g None e = tt

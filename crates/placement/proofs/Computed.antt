@@ -1,5 +1,5 @@
 -- At each step of a sum a signed number goes to its 32 bits and is read again. These follow a sum of the code, step by step.
-use Rattle.std.proofs.Common.{◌≡◌, ℤ, pos, ◌+ℤ◌, ◌-ℤ◌, neg_ℤ, refl, ap, ◌∙◌, arith, w32, SFits, to_z, of_z}
+use Rattle.std.proofs.Common.{◌≡◌, ℤ, pos, ◌+ℤ◌, ◌-ℤ◌, refl, ap, ◌∙◌, arith, w32, SFits, to_z, of_z}
 use lib.Signed.{quot_z}
 use Rattle.std.proofs.lemmas.Int.{ints, to_z-of_z}
 

@@ -4,7 +4,7 @@ use Rattle.signs.specs.declared.SignRow.{SignRow}
 use Rattle.signs.specs.Rows.{read_row}
 use Rattle.placement.specs.declared.position.Position.{Position}
 use Rattle.placement.specs.Lines.{Cell, cell, cells, positions_of}
-use Rattle.placement.proofs.Scans.{run, scan, scan_is, going, scan_more, scan_all}
+use Rattle.placement.proofs.Scans.{run, scan_is, going, scan_more, scan_all}
 
 module _ (out : Cell → Cell) where
   abbrev still : Unit {0} → Cell → Unit {0}

@@ -1,7 +1,6 @@
 -- Structs of numbers are equal where their fields are.
 use Rattle.std.proofs.Common.{◌≡◌, ℕ, ℤ}
 use Rattle.placement.specs.declared.extents.Extents.{Extents}
-use Rattle.placement.specs.declared.position.Position.{Position}
 use Rattle.placement.specs.declared.walk.Walk.{Walk}
 use Rattle.placement.specs.Lines.{at}
 

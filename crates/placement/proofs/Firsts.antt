@@ -1,5 +1,5 @@
 -- The first of some codes that has a glyph, one code at a time.
-use Rattle.std.proofs.Common.{◌≡◌, ℕ, zero, suc, ◌+◌, Bool, ℤ, Some, None, Option, ap, ◌∙◌}
+use Rattle.std.proofs.Common.{◌≡◌, ℕ, suc, ◌+◌, Bool, Some, None, ap, ◌∙◌}
 use Rattle.faces.specs.Meaning.{FaceMeaning}
 use Rattle.placement.specs.Mapped.{along}
 use Rattle.placement.specs.Spaces.{first_of, or_next}

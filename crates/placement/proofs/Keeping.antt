@@ -1,14 +1,12 @@
 -- What one placed mark keeps.
-use Rattle.std.proofs.Common.{◌≡◌, ℕ, ℤ, pos, ◌+ℤ◌, ◌-ℤ◌, ◌≤ℤ◌, Some, None, Option, sym, refl, subst, arith}
+use Rattle.std.proofs.Common.{◌≡◌, ℕ, pos, ◌+ℤ◌, ◌-ℤ◌, ◌≤ℤ◌, Some, Option, sym, refl, subst, arith}
 use Rattle.std.proofs.lemmas.Int.{ints}
 use Rattle.faces.specs.Meaning.{Edges}
 use Rattle.placement.specs.declared.classes.Way.{Way}
 use Rattle.placement.specs.declared.classes.Way.TheVariants.{Above, Below}
 use Rattle.placement.specs.declared.classes.Align.{Align}
 use Rattle.placement.specs.declared.classes.Align.TheVariants.{Centred}
-use Rattle.placement.specs.declared.direction.Direction.{Direction}
 use Rattle.placement.specs.declared.extents.Extents.{Extents}
-use Rattle.placement.specs.declared.extents.PlacedMark.{PlacedMark}
 use Rattle.placement.specs.Classes.{way, align}
 use Rattle.placement.specs.Placing.{gap_before, placed_by}
 use Rattle.placement.specs.Kept.{lies, distance, last_edge, far_edge, from_left, from_right, Even, PlacedMarksKeep}

@@ -1,5 +1,5 @@
 -- What holds of the elements that a loop has yet to come to.
-use Rattle.std.proofs.Common.{◌≡◌, ℕ, ◌+◌, ◌<◌, List, ◌∷◌, length, get_or, drop, set, sym, subst, arith}
+use Rattle.std.proofs.Common.{ℕ, ◌+◌, ◌<◌, List, ◌∷◌, length, get_or, drop, set, sym, subst, arith}
 use Rattle.std.proofs.lemmas.List.{drop-set-lt, drop_more}
 use Rattle.std.specs.List.{AllByRecursion as All}
 

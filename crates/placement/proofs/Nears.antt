@@ -1,25 +1,23 @@
 -- The walk stays within bounds: no sum of a placement overflows.
-use Rattle.std.proofs.Common.{◌≡◌, ℕ, ◌+◌, ◌*◌, ◌/◌, ◌≤◌, Bool, true, false, cond, eqb, ltb, ℤ, pos, ◌+ℤ◌, ◌-ℤ◌, Some, None, Option, arith}
+use Rattle.std.proofs.Common.{ℕ, ◌+◌, ◌*◌, ◌≤◌, Bool, true, false, eqb, ltb, ℤ, pos, ◌+ℤ◌, ◌-ℤ◌, Some, None, Option, arith}
 use Rattle.std.proofs.lemmas.Int.{ints}
 use Rattle.std.proofs.lemmas.Bool.{cond_both}
 use Rattle.signs.specs.declared.SignRow.{SignRow}
 use Rattle.signs.specs.Rows.{class, lig_num_comps, lig_comp, is_lig_base}
-use Rattle.faces.specs.Meaning.{FaceMeaning, Edges, IsBox, Keeps}
+use Rattle.faces.specs.Meaning.{FaceMeaning, Edges, IsBox}
 use Rattle.placement.specs.declared.classes.Way.{Way}
 use Rattle.placement.specs.declared.classes.Way.TheVariants.{Above, Below}
 use Rattle.placement.specs.declared.classes.Align.{Align}
 use Rattle.placement.specs.declared.classes.Align.TheVariants.{AtLeft, AtRight, OnLeft, OnRight, Centred}
 use Rattle.placement.specs.declared.direction.Direction.{Direction}
 use Rattle.placement.specs.declared.extents.Extents.{Extents}
-use Rattle.placement.specs.declared.extents.PlacedMark.{PlacedMark}
 use Rattle.placement.specs.declared.position.Position.{Position}
 use Rattle.placement.specs.declared.settings.Settings.{Settings}
 use Rattle.placement.specs.declared.walk.Walk.{Walk}
 use Rattle.placement.specs.Classes.{way, align, is_attached}
-use Rattle.placement.specs.Directions.{is_forward}
 use Rattle.placement.specs.Text.{is_text_ltr}
 use Rattle.placement.specs.Room.{Within, Room, Spans, Light, NearFrom, Near}
-use Rattle.placement.specs.Placing.{left_edge, width_of, x_of, y_of, reached, unlifted, half_sunk, gap_before, placed}
+use Rattle.placement.specs.Placing.{left_edge, width_of, x_of, y_of, reached, gap_before, placed}
 use Rattle.placement.specs.OneMark.{gap_of}
 use Rattle.placement.specs.Components.{component, share}
 use Rattle.placement.specs.Walks.{Base, walk_from, passed, to_component, to_run, entered, settled_walk}

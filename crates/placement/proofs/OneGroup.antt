@@ -1,5 +1,5 @@
 -- One group, from its base and the part of the lists after it.
-use Rattle.std.proofs.Common.{◌≡◌, ℕ, suc, ◌-◌, ◌<◌, ◌≤◌, List, [], ◌∷◌, ◌++◌, map, length, get_or, take, drop, Some, None, Option, sym, refl, ap, ◌∙◌, append-nil, arith}
+use Rattle.std.proofs.Common.{◌≡◌, ℕ, suc, ◌-◌, ◌<◌, List, [], ◌∷◌, map, length, get_or, take, drop, Some, None, Option, refl, ap, ◌∙◌, append-nil, arith}
 use borrow.Rule.Slice.PartMut.{put_mid}
 use Rattle.std.proofs.lemmas.List.{take_all, drop_all}
 use Rattle.signs.specs.declared.SignRow.{SignRow}
@@ -9,7 +9,7 @@ use Rattle.placement.specs.declared.position.Position.{Position}
 use Rattle.placement.specs.declared.settings.Settings.{Settings}
 use Rattle.placement.specs.declared.walk.Walk.{Walk}
 use Rattle.placement.specs.Lines.{Cell, cell, cells, positions_of}
-use Rattle.placement.specs.Walks.{Base, ground, base_at, start, walked}
+use Rattle.placement.specs.Walks.{Base, base_at, start, walked}
 use Rattle.placement.specs.Placements.{zeroed, around, group}
 use Rattle.placement.proofs.Blank.{blank, nowhere}
 

@@ -1,6 +1,5 @@
 -- The steps of a line make its route, and what a face answers stays within the bounds of a line.
-use Rattle.std.proofs.Common.{◌≡◌, ℕ, zero, suc, ◌+◌, ◌*◌, ◌/◌, ◌≤◌, Bool, true, false, cond, not, ◌&&◌, ◌||◌, eqb, leb, List, [], ◌∷◌, map, length, ℤ, pos, neg_ℤ, Some, None, Option, unwrap_or, sym, refl, ap, ◌∙◌, ⊎_elim, div-le_self, arith}
-use Rattle.std.proofs.lemmas.List.{length-map}
+use Rattle.std.proofs.Common.{◌≡◌, ℕ, zero, suc, ◌+◌, ◌*◌, ◌/◌, ◌≤◌, Bool, true, false, not, ◌&&◌, eqb, leb, List, [], ◌∷◌, map, length, ℤ, pos, Some, None, Option, unwrap_or, sym, refl, ap, ◌∙◌, ⊎_elim, div-le_self, arith}
 use Rattle.std.proofs.lemmas.Int.{ints}
 use Rattle.std.proofs.lemmas.Bool.{cases_Bool, cond_both, cond-true, cond-false, and_parts, or_cases, leb-true, eqb-true}
 use Rattle.signs.specs.declared.SignRow.{SignRow}
@@ -11,9 +10,9 @@ use Rattle.faces.specs.Meaning.{FaceMeaning, Keeps}
 use Rattle.placement.specs.declared.position.Position.{Position}
 use Rattle.placement.specs.declared.settings.Settings.{Settings}
 use Rattle.placement.specs.Directions.{is_horizontal}
-use Rattle.placement.specs.Lines.{Cell, cell, cells, rows_of, positions_of, at}
-use Rattle.placement.specs.Mapped.{glyph_for, with_code, map_row, along, map_position, mapped}
-use Rattle.placement.specs.Spaces.{size, or_next, first_of, or_else, is_fraction, own_advance, with_advance, halved_along, with_own, respaced, space_position, spaced_along, spaced}
+use Rattle.placement.specs.Lines.{cell, cells, positions_of}
+use Rattle.placement.specs.Mapped.{glyph_for, with_code, map_row, along, map_position}
+use Rattle.placement.specs.Spaces.{size, or_next, first_of, or_else, is_fraction, own_advance, with_advance, halved_along, with_own, space_position, spaced_along}
 use Rattle.placement.specs.Route.{cell_of}
 use Rattle.placement.specs.Room.{Within, Light, AllLight, AllGlyphs}
 

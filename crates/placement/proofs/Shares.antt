@@ -1,6 +1,6 @@
 -- Products and quotients of widths stay within bounds.
-use Rattle.std.proofs.Common.{◌≡◌, ℕ, suc, ◌*◌, ◌/◌, ◌≤◌, Bool, true, false, ℤ, pos, negsuc, ◌-ℤ◌, ◌*ℤ◌, neg_ℤ, mul-le-mul, div-le_self, arith, w32, SFits, to_z}
-use lib.Signed.{quot_z, mag}
+use Rattle.std.proofs.Common.{◌≡◌, ℕ, suc, ◌*◌, ◌/◌, ◌≤◌, Bool, true, false, ℤ, pos, negsuc, ◌*ℤ◌, neg_ℤ, mul-le-mul, div-le_self, arith, w32, SFits, to_z}
+use lib.Signed.{quot_z}
 use Rattle.std.proofs.lemmas.Int.{ints, to_z_pos}
 use Rattle.placement.specs.Room.{Within}
 use Rattle.placement.specs.Components.{leftward}

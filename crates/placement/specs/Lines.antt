@@ -1,5 +1,5 @@
 -- A line as a list of cells: each sign's row, as it is read, and its position.
-use Rattle.std.specs.Prelude.{List, [], ◌∷◌, map, ℤ, pos}
+use Rattle.std.specs.Prelude.{List, [], ◌∷◌, map, ℤ}
 use Rattle.signs.specs.declared.SignRow.{SignRow}
 use Rattle.signs.specs.Rows.{read_row}
 use Rattle.placement.specs.declared.position.Position.{Position}

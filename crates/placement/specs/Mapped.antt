@@ -1,5 +1,5 @@
 -- Mapping: the face's glyph in place of each code, and its advance along the line.
-use Rattle.std.specs.Prelude.{ℕ, Bool, true, false, cond, ℤ, pos, Option}
+use Rattle.std.specs.Prelude.{ℕ, Bool, true, false, ℤ, pos}
 use Rattle.std.specs.Option.{unwrap_or}
 use Rattle.signs.specs.declared.SignRow.{SignRow}
 use Rattle.signs.specs.Rows.{read_row}

@@ -1,5 +1,5 @@
 -- One mark on one base: the smallest sign that a panel shows.
-use Rattle.std.specs.Prelude.{◌≡◌, ℕ, ◌/◌, cond, ℤ, pos, Some, None, Option, ◌==◌}
+use Rattle.std.specs.Prelude.{◌≡◌, ℕ, ◌/◌, cond, pos, Some, None, Option, ◌==◌}
 use Rattle.faces.specs.Meaning.{FaceMeaning, Edges}
 use Rattle.placement.specs.declared.direction.Direction.{Direction}
 use Rattle.placement.specs.declared.extents.Extents.{Extents}

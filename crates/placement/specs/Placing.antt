@@ -1,5 +1,5 @@
 -- Where one mark goes by the box of its run, and that box after it. Divisions round toward zero.
-use Rattle.std.specs.Prelude.{ℕ, ◌≤◌, Bool, cond, ℤ, pos, ◌+ℤ◌, ◌-ℤ◌, neg_ℤ, Some, None, Option, int_div, int_lt}
+use Rattle.std.specs.Prelude.{ℕ, cond, ℤ, pos, ◌+ℤ◌, ◌-ℤ◌, neg_ℤ, Some, None, Option, int_div, int_lt}
 use Rattle.faces.specs.Meaning.{Edges}
 use Rattle.placement.specs.declared.classes.Way.{Way}
 use Rattle.placement.specs.declared.classes.Way.TheVariants.{Above, Below}

@@ -1,4 +1,4 @@
-use Rattle.std.proofs.Common.{◌≡◌, true, sym, ◌∙◌, rules}
+use Rattle.std.proofs.Common.{◌≡◌, sym, ◌∙◌, rules}
 use Rattle.placement.specs.Bounded.{bounded}
 use Rattle.placement.proofs.BoundedLists.{bounded_light}
 use Rattle.placement.proofs.bounded.all_bounded.Goals as goal

@@ -1,4 +1,4 @@
-use Rattle.std.proofs.Common.{ℤ, pos, ◌+ℤ◌, ◌-ℤ◌, arith, w16, w32, to_z, of_z}
+use Rattle.std.proofs.Common.{ℤ, pos, ◌-ℤ◌, arith, w16, w32, to_z, of_z}
 use Rattle.std.proofs.lemmas.Int.{ints}
 use Rattle.placement.specs.Placing.{unlifted}
 use Rattle.placement.proofs.Computed.{again}

@@ -1,4 +1,4 @@
-use Rattle.std.proofs.Common.{◌≡◌, Some, ap, ◌∙◌, arith, w32, SFits, rules}
+use Rattle.std.proofs.Common.{Some, ap, ◌∙◌, arith, w32, SFits, rules}
 use Rattle.std.proofs.lemmas.Int.{ints}
 use Rattle.faces.specs.Boxes.{edges_of}
 use Rattle.placement.specs.declared.classes.Way.TheVariants.{Above, Below}

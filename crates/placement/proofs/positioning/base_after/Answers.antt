@@ -1,4 +1,4 @@
-use Rattle.std.proofs.Common.{◌≡◌, sym, ap, ◌∙◌, arith, rules}
+use Rattle.std.proofs.Common.{ap, ◌∙◌, arith, rules}
 use Rattle.signs.specs.Rows.{is_mark}
 use Rattle.placement.proofs.MarksAhead.{after_mark, after_base, after_none}
 use Rattle.placement.proofs.positioning.base_after.Goals as goal

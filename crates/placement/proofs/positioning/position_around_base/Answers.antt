@@ -1,11 +1,9 @@
-use Rattle.std.proofs.Common.{◌≡◌, ℕ, ◌≤◌, Bool, length, get_or, sym, refl, ap, ◌∙◌, subst, arith, length-drop, length-take}
+use Rattle.std.proofs.Common.{◌≡◌, ◌≤◌, Bool, get_or, sym, ap, ◌∙◌, subst, arith, length-drop, length-take}
 use Rattle.std.proofs.ByRecursion.{All-get_or, All-take, All-drop}
-use Rattle.std.proofs.lemmas.Int.{ints}
 use Rattle.signs.specs.declared.SignRow.{SignRow}
 use Rattle.signs.specs.Rows.{read_row}
 use Rattle.signs.specs.Signs.{row_of}
 use Rattle.faces.specs.Boxes.{edges_of}
-use Rattle.faces.specs.Meaning.{FaceMeaning}
 use Rattle.placement.specs.declared.walk.Walk.{Walk}
 use Rattle.placement.specs.Lines.{cell}
 use Rattle.placement.specs.Room.{Light, Near}

@@ -1,4 +1,4 @@
-use Rattle.std.proofs.Common.{◌≡◌, ◌+◌, ◌-◌, ◌≤◌, take, sym, ◌∙◌, subst, zero-add, arith, length-drop, length-take}
+use Rattle.std.proofs.Common.{◌-◌, ◌≤◌, sym, ◌∙◌, subst, zero-add, arith, length-drop, length-take}
 use Rattle.std.proofs.ByRecursion.{All-take, All-drop}
 use Rattle.signs.specs.declared.SignRow.{SignRow}
 use Rattle.placement.specs.Marks.{marks}

@@ -1,6 +1,6 @@
-use Rattle.std.proofs.Common.{◌≡◌, ℕ, ◌+◌, ◌-◌, ℤ, Some, sym, ap, ◌∙◌, arith, w32, SFits, rules}
+use Rattle.std.proofs.Common.{◌≡◌, ℕ, ◌+◌, ◌-◌, ℤ, Some, ap, ◌∙◌, arith, w32, SFits, rules}
 use Rattle.placement.specs.Spaces.{first_of}
-use Rattle.placement.proofs.Computed.{again_is, again_same}
+use Rattle.placement.proofs.Computed.{again_same}
 use Rattle.placement.proofs.Firsts.{first_found, first_next, first_none}
 use Rattle.placement.proofs.spaces.first_advance.Goals as goal
 

@@ -1,4 +1,4 @@
-use Rattle.std.proofs.Common.{◌≡◌, ◌/◌, ◌≤◌, sym, subst, arith}
+use Rattle.std.proofs.Common.{◌/◌, ◌≤◌, sym, subst, arith}
 use Rattle.faces.specs.Boxes.{edges_of}
 use Rattle.placement.specs.declared.extents.PlacedMark.{PlacedMark}
 use Rattle.placement.specs.Room.{Within}

@@ -1,4 +1,4 @@
-use Rattle.std.proofs.Common.{◌≡◌, Bool, sym, ap, ◌∙◌, subst}
+use Rattle.std.proofs.Common.{Bool, sym, ap, ◌∙◌, subst}
 use Rattle.signs.specs.Rows.{read_row, class}
 use Rattle.signs.specs.Signs.{row_of}
 use Rattle.placement.specs.Room.{Near}
