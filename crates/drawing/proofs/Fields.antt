@@ -1,7 +1,7 @@
 -- Pens and items are equal where their numbers are.
 use Rattle.std.proofs.Common.{◌≡◌, ℕ, ℤ}
-use Rattle.looks.specs.Drawing.{item}
-use Rattle.looks.specs.Pens.{pen_at}
+use Rattle.drawing.specs.Drawing.{item}
+use Rattle.drawing.specs.Pens.{pen_at}
 
 pub same_pen : {x y u v : ℤ} → x ≡ u → y ≡ v → pen_at x y ≡ pen_at u v
 same_pen p q = cc

@@ -1,14 +1,6 @@
-pub mod Edges
-pub mod Heights
-pub mod Walks
-pub mod Runs
-pub mod Pens
+pub mod Lengths
 pub mod Sums
 pub mod Fields
 pub mod Turns
-pub mod Parts
-pub mod Lines
-pub mod Present
+pub mod Seen
 pub mod Stands
-pub mod Promised
-pub mod Beside

@@ -4,7 +4,7 @@ use Rattle.std.proofs.ByRecursion.{All-get_or}
 use Rattle.std.proofs.lemmas.Int.{ints, to_z-of_z}
 use Rattle.placement.specs.declared.Position.{Position}
 use Rattle.placement.specs.Room.{Within, Light, AllLight}
-use Rattle.looks.specs.Pens.{place_at, nowhere, pen_after, Near}
+use Rattle.drawing.specs.Pens.{place_at, nowhere, pen_after, Near}
 
 -- a number as it is read again from its 32 bits
 abbrev again : ℤ → ℤ

@@ -4,11 +4,12 @@ use Rattle.std.proofs.lemmas.List.{take_more, drop_more, set_at, length-take-le,
 use Rattle.signs.specs.declared.SignRow.{SignRow}
 use Rattle.placement.specs.declared.Position.{Position}
 use Rattle.placement.specs.Lines.{Cell, cell}
-use Rattle.looks.specs.declared.item.Item.{Item}
-use Rattle.looks.specs.declared.pen.Pen.{Pen}
-use Rattle.looks.specs.Drawing.{numbered, penned, drawn_in, side}
-use Rattle.looks.specs.Pens.{start, move_pen, item_at, item_in_turn, place_at, no_row, nowhere, pen_after}
-use Rattle.looks.proofs.Pens.{penned_length, numbered_length, order_length}
+use Rattle.drawing.specs.declared.item.Item.{Item}
+use Rattle.drawing.specs.declared.pen.Pen.{Pen}
+use Rattle.looks.specs.Drawing.{numbered}
+use Rattle.drawing.specs.Drawing.{penned, drawn_in, side}
+use Rattle.drawing.specs.Pens.{start, move_pen, item_at, item_in_turn, place_at, no_row, nowhere, pen_after}
+use Rattle.drawing.proofs.Lengths.{penned_length, numbered_length, order_length}
 
 -- a list that is written place by place over another, the rest staying
 pub into_more : {X : Type 0} (goal ys zs : List X) (k : ℕ) (y : X) → k < length goal → length goal ≤ length ys

@@ -4,9 +4,9 @@ use Rattle.signs.specs.declared.SignRow.{SignRow}
 use Rattle.placement.specs.declared.Position.{Position}
 use Rattle.placement.specs.Bounded.{bounded}
 use Rattle.placement.specs.Steps.{fits}
-use Rattle.looks.specs.declared.pen.Pen.{Pen}
-use Rattle.looks.specs.declared.refusal.Refusal.{Refusal}
-use Rattle.looks.specs.declared.refusal.Refusal.TheVariants.{Length, NoRoom, OutOfBounds}
+use Rattle.drawing.specs.declared.pen.Pen.{Pen}
+use Rattle.drawing.specs.declared.refusal.Refusal.{Refusal}
+use Rattle.drawing.specs.declared.refusal.Refusal.TheVariants.{Length, NoRoom, OutOfBounds}
 
 -- There is an item and a pen for each sign.
 abbrev pub has_room : ℕ → ℕ → ℕ → Bool

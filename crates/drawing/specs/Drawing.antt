@@ -1,7 +1,6 @@
--- What is drawn of a line: for each sign an item, which says where on the panel its glyph goes. The pen starts at 0, 0; it
--- draws each sign at itself moved by the sign's offsets, and then goes on by the sign's advances.
-use Rattle.std.specs.Prelude.{ℕ, suc, Bool, cond, List, [], ◌∷◌, ◌++◌, reverse, length, drop, ℤ, pos, ◌+ℤ◌}
-use Rattle.std.specs.List.{range_with_len}
+-- What is drawn of a line, as the items that a caller lends: for each sign an item, which says where on the panel its glyph
+-- goes. The pen starts at 0, 0; it draws each sign at itself moved by the sign's offsets, and then goes on by its advances.
+use Rattle.std.specs.Prelude.{ℕ, Bool, cond, List, [], ◌∷◌, ◌++◌, map, reverse, length, drop, ℤ, pos, ◌+ℤ◌}
 use Rattle.signs.specs.declared.SignRow.{SignRow}
 use Rattle.faces.specs.Meaning.{FaceMeaning}
 use Rattle.placement.specs.declared.Position.{Position}
@@ -9,15 +8,19 @@ use Rattle.placement.specs.declared.Settings.{Settings}
 use Rattle.placement.specs.Directions.{is_forward}
 use Rattle.placement.specs.Lines.{Cell, cell}
 use Rattle.placement.specs.Route.{route}
-use Rattle.looks.specs.declared.item.Item.{Item}
+use Rattle.looks.specs.Drawing.{Item as LookItem, item as look_item, numbered}
+use Rattle.drawing.specs.declared.item.Item.{Item}
 
 -- The glyph of a place, at a point.
 abbrev pub item : ℕ → ℕ → ℤ → ℤ → Item
 item p g x y = record { place = p; glyph = g; x = x; y = y }
 
-abbrev pub numbered : ℕ → List Cell → List (ℕ × Cell)
-numbered i [] = []
-numbered i (c ∷ cs) = (i, c) ∷ numbered (suc i) cs
+-- An item as the laws of looks speak of it.
+abbrev pub seen : Item → LookItem
+seen i = look_item i.place i.glyph i.x i.y
+
+abbrev pub seen_all : List Item → List LookItem
+seen_all items = map seen items
 
 abbrev pub penned : ℤ → ℤ → List (ℕ × Cell) → List Item
 penned x y [] = []
@@ -31,10 +34,6 @@ drawn_in forward cs = penned (pos 0) (pos 0) (cond forward (numbered 0 cs) (reve
 
 abbrev pub drawn : Settings → List Cell → List Item
 drawn s cs = drawn_in (is_forward s.direction) cs
-
--- The places of n signs, in the order in which the pen comes to them.
-abbrev pub turns : Bool → ℕ → List ℕ
-turns forward n = cond forward (range_with_len 0 n) (reverse (range_with_len 0 n))
 
 -- A look: the book's rows go their route, and what comes of it is drawn.
 abbrev pub look : FaceMeaning → Settings → List SignRow → List Item

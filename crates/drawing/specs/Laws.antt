@@ -1,25 +1,13 @@
--- What makes the promise worth its words: that every look keeps it, that it speaks of each mark that has a base before it,
--- and that its marks are those that a book's rows are read as. And how two lists of a line are drawn: each sign in its turn.
-use Rattle.std.specs.Prelude.{◌≡◌, ℕ, ◌<◌, Bool, true, ◌⊎◌, List, ◌∷◌, ◌++◌, length, slice_index_or}
+-- Every drawing from blank keeps the promise; and two lists of a line are drawn sign by sign, each in its turn.
+use Rattle.std.specs.Prelude.{◌≡◌, ℕ, ◌<◌, Bool, List, length, slice_index_or}
 use Rattle.signs.specs.declared.SignRow.{SignRow}
-use Rattle.signs.specs.Rows.{is_mark, read_row}
 use Rattle.placement.specs.declared.Position.{Position}
 use Rattle.placement.specs.Lines.{Cell, rows_of, positions_of}
-use Rattle.looks.specs.declared.item.Item.{Item}
-use Rattle.looks.specs.Drawing.{drawn_in, side}
-use Rattle.looks.specs.Pens.{item_in_turn}
-use Rattle.looks.specs.Signs.{is_mark_row}
-use Rattle.looks.specs.Groups.{AreMarks, Marked, mark_place}
-use Rattle.looks.specs.Promise.{LooksKeep}
-
--- Before a mark there are marks only, or it is the mark of a group.
-abbrev pub Covers : Type 0
-Covers = (before : List SignRow) (mark : SignRow) (after : List SignRow) → is_mark_row mark ≡ true
-    → AreMarks before ⊎ ((c : Marked (before ++ mark ∷ after)) × (mark_place c ≡ length before) × (c.mark ≡ mark))
-
--- Classing makes no mark and unmakes none.
-abbrev pub MarksAsRead : Type 0
-MarksAsRead = (r : SignRow) → is_mark_row r ≡ is_mark (read_row r)
+use Rattle.looks.specs.Laws.{LooksStand}
+use Rattle.drawing.specs.declared.item.Item.{Item}
+use Rattle.drawing.specs.Drawing.{drawn_in, side}
+use Rattle.drawing.specs.Pens.{item_in_turn}
+use Rattle.drawing.specs.Promise.{DrawingsKeep}
 
 -- The rows and the positions of a line's cells, side by side, are those cells.
 abbrev pub SideBySide : Type 0
@@ -33,9 +21,8 @@ pub record InTurn (forward : Bool) (rows : List SignRow) (ps : List Position) : 
 abbrev pub TurnByTurn : Type 0
 TurnByTurn = (forward : Bool) (rows : List SignRow) (ps : List Position) → length ps ≡ length rows → InTurn forward rows ps
 
-pub record LooksStand : Type 0 where
-  pub promise : LooksKeep
-  pub covers : Covers
-  pub marks_as_read : MarksAsRead
+pub record DrawingsStand : Type 0 where
+  pub looks : LooksStand
+  pub promise : DrawingsKeep
   pub side_by_side : SideBySide
   pub turn_by_turn : TurnByTurn

@@ -1,16 +1,6 @@
-pub mod Signs
-pub mod Groups
-pub mod Runs
-pub mod Measured
-pub mod Steps
-pub mod Shares
 pub mod Drawing
 pub mod Pens
 pub mod Refusals
 pub mod DrawAnswers
-pub mod Shown
-pub mod Distances
 pub mod Promise
 pub mod Laws
-pub mod Worked
-pub mod WorkedSigns

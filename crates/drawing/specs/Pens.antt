@@ -5,9 +5,9 @@ use Rattle.signs.specs.Rows.{row_from}
 use Rattle.placement.specs.declared.Position.{Position}
 use Rattle.placement.specs.Lines.{at}
 use Rattle.placement.specs.Room.{Within}
-use Rattle.looks.specs.declared.item.Item.{Item}
-use Rattle.looks.specs.declared.pen.Pen.{Pen}
-use Rattle.looks.specs.Drawing.{item}
+use Rattle.drawing.specs.declared.item.Item.{Item}
+use Rattle.drawing.specs.declared.pen.Pen.{Pen}
+use Rattle.drawing.specs.Drawing.{item}
 
 abbrev pub pen_at : ℤ → ℤ → Pen
 pen_at x y = record { x = x; y = y }

@@ -1,7 +1,7 @@
 -- The number of each refusal of a drawing.
 use Rattle.std.specs.Prelude.{ℕ}
-use Rattle.looks.specs.declared.refusal.Refusal.{Refusal}
-use Rattle.looks.specs.declared.refusal.Refusal.TheVariants.{Length, NoRoom, OutOfBounds}
+use Rattle.drawing.specs.declared.refusal.Refusal.{Refusal}
+use Rattle.drawing.specs.declared.refusal.Refusal.TheVariants.{Length, NoRoom, OutOfBounds}
 
 abbrev pub number_of : Refusal → ℕ
 number_of Length = 13

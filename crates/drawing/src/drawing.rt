@@ -1,8 +1,8 @@
 // Drawing a line into lists that the caller lends: first the pen before each sign is noted, then each sign is drawn there.
 ghost use Rattle.std.specs.Prelude.{◌≡◌, ◌<◌, ◌≤◌, ◌++◌, length, drop, is_ok, if◌then◌else◌};
-ghost use Rattle.looks.specs.DrawAnswers.{PensAfter, draw_answer};
-ghost use Rattle.looks.specs.Drawing.{drawn_in, drawn_over, side};
-ghost use Rattle.looks.specs.Pens.{Near, Penned, item_at, move_pen, place_at};
+ghost use Rattle.drawing.specs.DrawAnswers.{PensAfter, draw_answer};
+ghost use Rattle.drawing.specs.Drawing.{drawn_in, drawn_over, side};
+ghost use Rattle.drawing.specs.Pens.{Near, Penned, item_at, move_pen, place_at};
 ghost use Rattle.placement.specs.Room.{AllLight, Light};
 
 use crate::item::Item;

@@ -1,30 +1,11 @@
-// The laws of looks, for callers to rest on.
-ghost use Rattle.looks.specs.Laws.{LooksStand};
-ghost use Rattle.looks.specs.Worked.{WorkedLooks};
-ghost use Rattle.looks.specs.WorkedSigns.{WorkedSigns};
+// The laws of drawing, for callers to rest on.
+ghost use Rattle.drawing.specs.Laws.{DrawingsStand};
 
-use placement::{lines_stand, placing_stands};
-use signs::signs_stand;
+use looks::look_stands;
 
-// What every look keeps: each sign is shown, marks stand clear and centred ones in the middle.
-pub fn look_stands() -> bool
-    ensures { LooksStand }
+// What every drawing from blank keeps, and how a line's two lists are drawn.
+pub fn drawings_stand() -> bool
+    ensures { DrawingsStand }
 {
-    let _ = signs_stand();
-    let _ = lines_stand();
-    placing_stands()
-}
-
-// Worked looks.
-pub fn worked_looks_stand() -> bool
-    ensures { WorkedLooks }
-{
-    true
-}
-
-// The worked signs of the panel, in one list.
-pub fn worked_signs_stand() -> bool
-    ensures { WorkedSigns }
-{
-    true
+    look_stands()
 }

@@ -1,4 +1,4 @@
-// Looks: what is drawn of a whole line, and what every look keeps.
+// Drawing: a line's items, written into lists that the caller lends, and what they keep.
 #![tactic(auto)]
 
 mod drawing;
@@ -9,6 +9,6 @@ mod refusal;
 
 pub use drawing::draw_line;
 pub use item::Item;
-pub use laws::{look_stands, worked_looks_stand, worked_signs_stand};
+pub use laws::drawings_stand;
 pub use pen::Pen;
 pub use refusal::Refusal;

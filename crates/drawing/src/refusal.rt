@@ -1,6 +1,6 @@
 // Why a line is not drawn.
 ghost use Rattle.std.specs.Prelude.{◌≡◌};
-ghost use Rattle.looks.specs.Refusals.{number_of};
+ghost use Rattle.drawing.specs.Refusals.{number_of};
 
 #[derive(Clone, Copy, PartialEq, Eq, Debug)]
 pub enum Refusal {

@@ -1,6 +1,6 @@
 -- Where the pen stands at a place.
 use Rattle.std.proofs.Common.{◌≡◌, ℕ, suc, ◌+◌, ◌<◌, ◌≤◌, Bool, true, false, cond, eqb, List, [], ◌∷◌, ◌++◌, map, reverse, length, ℤ, pos, ◌+ℤ◌, sym, refl, ap, ◌∙◌, subst, arith}
-use Rattle.std.specs.List.{range_with_len, AllByRecursion as All}
+use Rattle.std.specs.List.{range_with_len, AllByRecursion}
 use Rattle.std.proofs.lemmas.List.{reverse-append, append_assoc, map-append, length-reverse}
 use Rattle.std.proofs.lemmas.Int.{ints}
 use Rattle.std.proofs.lemmas.Bool.{ne_eqb, eq-eqb, cond-true, cond-false}
@@ -59,7 +59,7 @@ numbered_append i (c ∷ cs) ds =
 
 -- none of them has the place p
 abbrev Others : ℕ → List (ℕ × Cell) → Type 0
-Others p ns = All (λ n. eqb n.0 p ≡ false) ns
+Others p ns = AllByRecursion (λ n. eqb n.0 p ≡ false) ns
 
 others_below : (p i : ℕ) (cs : List Cell) → i + length cs ≤ p → Others p (numbered i cs)
 others_below p i [] h = tt

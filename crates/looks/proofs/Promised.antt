@@ -1,6 +1,6 @@
 -- The promise of a look.
 use Rattle.std.proofs.Common.{◌≡◌, true, false, eqb, List, [], ◌∷◌, ◌++◌, ℤ, pos, ◌+ℤ◌, ◌-ℤ◌, ◌≤ℤ◌, Some, sym, refl, ap, ◌∙◌, subst, arith}
-use Rattle.std.specs.List.{AllByRecursion as All}
+use Rattle.std.specs.List.{AllByRecursion}
 use Rattle.std.proofs.lemmas.List.{append_assoc}
 use Rattle.std.proofs.lemmas.Int.{ints}
 use Rattle.std.proofs.lemmas.Bool.{eqb-true, and_from, and_left, and_right, and_parts, cond-true, cond-false}
@@ -46,7 +46,7 @@ from_mark Below ab mb i j k ya yz need hj hk h = omega (arith, ints)
 from_sides : (i j : Item) (r : Sides) (m : Edges) (x : ℤ) → j.x ≡ i.x +ℤ x → Even (x +ℤ m.left -ℤ r.left) ((r.left +ℤ r.width) -ℤ (x +ℤ m.right)) → Even (left_room i r (moved j m)) (right_room i r (moved j m))
 from_sides i j r m x hj h = (omega (arith, ints, h.0, h.1), omega (arith, ints, h.0, h.1))
 
-all_front : (P : SignRow → Type 0) (xs ys : List SignRow) → All P (xs ++ ys) → All P xs × All P ys
+all_front : (P : SignRow → Type 0) (xs ys : List SignRow) → AllByRecursion P (xs ++ ys) → AllByRecursion P xs × AllByRecursion P ys
 all_front P [] ys a = (tt, a)
 all_front P (x ∷ xs) ys a = let h = all_front P xs ys a.1 in ((a.0, h.0), h.1)
 

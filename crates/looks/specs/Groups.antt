@@ -1,12 +1,12 @@
 -- Marks in their groups. On a panel a bar belongs to the letter before it: a base and the marks after it, up to the next
 -- base, are one group. A place in a book is the number of rows before it.
 use Rattle.std.specs.Prelude.{◌≡◌, ℕ, suc, ◌+◌, true, false, List, ◌∷◌, ◌++◌, length}
-use Rattle.std.specs.List.{AllByRecursion as All}
+use Rattle.std.specs.List.{AllByRecursion}
 use Rattle.signs.specs.declared.SignRow.{SignRow}
 use Rattle.looks.specs.Signs.{is_mark_row}
 
 abbrev pub AreMarks : List SignRow → Type 0
-AreMarks rows = All (λ m. is_mark_row m ≡ true) rows
+AreMarks rows = AllByRecursion (λ m. is_mark_row m ≡ true) rows
 
 -- A mark in its group: the rows are those before, a base, the marks between the base and this one, this mark, and others.
 pub record InGroup (rows before : List SignRow) (base : SignRow) (marks : List SignRow) (mark : SignRow) (after : List SignRow) : Type 0 where

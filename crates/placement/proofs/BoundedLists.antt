@@ -1,7 +1,7 @@
 -- Lists that pass the tests of a line are those that hold what a placement needs.
 use Rattle.std.proofs.Common.{◌≡◌, ℕ, ◌≤◌, Bool, true, List, [], ◌∷◌, ℤ, pos, neg_ℤ, refl, arith}
 use lib.Signed.{le_z}
-use Rattle.std.specs.List.{AllByRecursion as All}
+use Rattle.std.specs.List.{AllByRecursion}
 use Rattle.std.proofs.lemmas.Int.{ints}
 use Rattle.std.proofs.lemmas.Bool.{and_parts, and_from, leb-true, le-leb}
 use Rattle.signs.specs.declared.SignRow.{SignRow}
@@ -44,7 +44,7 @@ inside_from n z w = and_from (le_z (neg_ℤ (pos n)) z) (le_z z (pos n)) (grind 
 from_light : (p : Position) → Light p → bounded_position p ≡ true
 from_light p l = and_from _ _ (inside_from 65535 _ l.x_advance) (and_from _ _ (inside_from 65535 _ l.y_advance) (and_from _ _ (inside_from 40000000 _ l.x_offset) (inside_from 40000000 _ l.y_offset)))
 
-all_from : {X : Type 0} (test : X → Bool) (P : X → Type 0) → ((x : X) → P x → test x ≡ true) → (xs : List X) → All P xs → every test xs ≡ true
+all_from : {X : Type 0} (test : X → Bool) (P : X → Type 0) → ((x : X) → P x → test x ≡ true) → (xs : List X) → AllByRecursion P xs → every test xs ≡ true
 all_from test P from [] a = refl
 all_from test P from (x ∷ xs) a = and_from _ _ (from x a.0) (all_from test P from xs a.1)
 

@@ -1,6 +1,6 @@
 -- A line by its groups.
 use Rattle.std.proofs.Common.{◌≡◌, suc, Bool, true, false, eqb, List, [], ◌∷◌, ◌++◌, map, length, Some, None, Option, sym, refl, ap, ◌∙◌, ⊎_elim}
-use Rattle.std.specs.List.{AllByRecursion as All}
+use Rattle.std.specs.List.{AllByRecursion}
 use Rattle.std.proofs.lemmas.List.{map-append, length-map}
 use Rattle.std.proofs.lemmas.Bool.{cases_Bool}
 use Rattle.signs.specs.declared.SignRow.{SignRow}
@@ -38,19 +38,19 @@ module _ (f : FaceMeaning) (s : Settings) where
       let by : (u : Standing) → flow f s u (c ∷ cs) ≡ _ = λ u. ap (λ t. out_by f s t u c ∷ flow f s (next_by f s t u c) cs) h in
       by st ∙ sym (by v)
 
-  leading : (ms rest : List Cell) → All IsMark ms → flow f s Leading (ms ++ rest) ≡ ms ++ flow f s Leading rest
+  leading : (ms rest : List Cell) → AllByRecursion IsMark ms → flow f s Leading (ms ++ rest) ≡ ms ++ flow f s Leading rest
   leading [] rest h = refl
   leading (m ∷ ms) rest h = ap (λ t. out_by f s t Leading m ∷ flow f s (next_by f s t Leading m) (ms ++ rest)) h.0 ∙ ap (λ l. m ∷ l) (leading ms rest h.1)
 
-  bare : (ms rest : List Cell) → All IsMark ms → Opens rest → flow f s Bare (ms ++ rest) ≡ map (zeroed s.adjust) ms ++ flow f s Leading rest
+  bare : (ms rest : List Cell) → AllByRecursion IsMark ms → Opens rest → flow f s Bare (ms ++ rest) ≡ map (zeroed s.adjust) ms ++ flow f s Leading rest
   bare [] rest h o = afresh Bare Leading rest o
   bare (m ∷ ms) rest h o = ap (λ t. out_by f s t Bare m ∷ flow f s (next_by f s t Bare m) (ms ++ rest)) h.0 ∙ ap (λ l. zeroed s.adjust m ∷ l) (bare ms rest h.1 o)
 
-  along : (b : Base) (w : Walk) (ms rest : List Cell) → All IsMark ms → Opens rest → flow f s (Along b w) (ms ++ rest) ≡ walked f s b w ms ++ flow f s Leading rest
+  along : (b : Base) (w : Walk) (ms rest : List Cell) → AllByRecursion IsMark ms → Opens rest → flow f s (Along b w) (ms ++ rest) ≡ walked f s b w ms ++ flow f s Leading rest
   along b w [] rest h o = afresh (Along b w) Leading rest o
   along b w (m ∷ ms) rest h o = ap (λ t. out_by f s t (Along b w) m ∷ flow f s (next_by f s t (Along b w) m) (ms ++ rest)) h.0 ∙ ap (λ l. out f s b w m ∷ l) (along b (next f s b w m) ms rest h.1 o)
 
-  by_box : (c : Cell) (o : Option Edges) (ms rest : List Cell) → All IsMark ms → Opens rest → flow f s (opened f s c o) (ms ++ rest) ≡ around f s c o ms ++ flow f s Leading rest
+  by_box : (c : Cell) (o : Option Edges) (ms rest : List Cell) → AllByRecursion IsMark ms → Opens rest → flow f s (opened f s c o) (ms ++ rest) ≡ around f s c o ms ++ flow f s Leading rest
   by_box c None ms rest h o = bare ms rest h o
   by_box c (Some e) ms rest h o = along _ _ ms rest h o
 

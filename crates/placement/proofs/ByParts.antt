@@ -1,7 +1,7 @@
 -- The groups of a line one after another, each written in its own part of the positions.
 use Rattle.std.proofs.Common.{◌≡◌, ℕ, zero, suc, ◌+◌, ◌-◌, ◌<◌, ◌≤◌, Bool, true, false, cond, List, [], ◌∷◌, ◌++◌, length, get_or, take, drop, Some, None, Option, sym, refl, ap, ◌∙◌, subst, append_assoc, append-nil, arith, length-append, length-drop}
 use borrow.Rule.Slice.PartMut.{put_mid}
-use Rattle.std.specs.List.{AllByRecursion as All}
+use Rattle.std.specs.List.{AllByRecursion}
 use Rattle.std.proofs.lemmas.List.{take_all, drop_all, drop-drop, length-map, take_at, drop_at, drop_more, length-take-le, take-append-drop, map-append}
 use Rattle.signs.specs.declared.SignRow.{SignRow}
 use Rattle.signs.specs.Rows.{is_mark, read_row}
@@ -55,12 +55,12 @@ opens_after (r ∷ rs) (p ∷ ps) e = by (is_mark (read_row r)) refl (opens_afte
     by true q h = h
     by false q h = q
 
-all_marks : (rs : List SignRow) (ps : List Position) → length ps ≡ length rs → All IsMark (take (marks rs) (cells rs ps))
+all_marks : (rs : List SignRow) (ps : List Position) → length ps ≡ length rs → AllByRecursion IsMark (take (marks rs) (cells rs ps))
 all_marks [] ps e = tt
 all_marks (r ∷ rs) [] e = absurd (omega arith)
 all_marks (r ∷ rs) (p ∷ ps) e = by (is_mark (read_row r)) refl (all_marks rs ps (omega arith))
   where
-    by : (b : Bool) → is_mark (read_row r) ≡ b → All IsMark (take (marks rs) (cells rs ps)) → All IsMark (take (cond b (suc (marks rs)) 0) (cell (read_row r) p ∷ cells rs ps))
+    by : (b : Bool) → is_mark (read_row r) ≡ b → AllByRecursion IsMark (take (marks rs) (cells rs ps)) → AllByRecursion IsMark (take (cond b (suc (marks rs)) 0) (cell (read_row r) p ∷ cells rs ps))
     by true q h = (q, h)
     by false q h = tt
 
@@ -119,10 +119,10 @@ module _ (f : FaceMeaning) (s : Settings) (rows : List SignRow) (ps : List Posit
         let parted = cells_drop (i + 1) rows ps in
         let after : length (drop (i + 1) ps) ≡ length (drop (i + 1) rows) = length-drop (i + 1) ps ∙ ap (λ (n : ℕ). n - (i + 1)) long ∙ sym (length-drop (i + 1) rows) in
         let is_base : is_mark x.row ≡ false = subst Opens first r.opens in
-        let are-marks : All IsMark ms = subst (λ (y : List Cell). All IsMark (take m y)) parted (all_marks (drop (i + 1) rows) (drop (i + 1) ps) after) in
+        let are_marks : AllByRecursion IsMark ms = subst (λ (y : List Cell). AllByRecursion IsMark (take m y)) parted (all_marks (drop (i + 1) rows) (drop (i + 1) ps) after) in
         let opens : Opens more = subst Opens (ap (drop m) parted ∙ past) (opens_after (drop (i + 1) rows) (drop (i + 1) ps) after) in
         let placed : placed_line f s (drop i cs) ≡ group f s (x ∷ ms) ++ placed_line f s more =
-        ap (placed_line f s) (first ∙ ap (λ y. x ∷ y) split) ∙ one_group f s x ms more is_base are-marks opens in
+        ap (placed_line f s) (first ∙ ap (λ y. x ∷ y) split) ∙ one_group f s x ms more is_base are_marks opens in
         let size : j - i ≡ suc m = omega arith in
         let part : cells (take (j - i) (drop i rows)) (take (j - i) (drop i l)) ≡ x ∷ ms =
         ap (λ y. cells (take (j - i) (drop i rows)) (take (j - i) y)) r.rest ∙ cells_take (j - i) (drop i rows) (drop i ps) ∙ ap (take (j - i)) (cells_drop i rows ps) ∙ ap (λ (n : ℕ). take n (drop i cs)) size ∙ ap (take (suc m)) first in

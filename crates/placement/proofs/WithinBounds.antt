@@ -2,7 +2,7 @@
 -- box, and 256 marks along it stay below the limits.
 use Rattle.std.proofs.Common.{◌≡◌, ℕ, ◌+◌, ◌*◌, ◌≤◌, Bool, true, false, eqb, List, [], ◌∷◌, map, length, ℤ, pos, Some, None, Option, sym, refl, ◌∙◌, subst, arith}
 use mathlib.Core.List.{map-map}
-use Rattle.std.specs.List.{AllByRecursion as All}
+use Rattle.std.specs.List.{AllByRecursion}
 use Rattle.std.proofs.lemmas.List.{length-map}
 use Rattle.std.proofs.lemmas.Int.{ints}
 use Rattle.std.proofs.lemmas.Bool.{cond_both}
@@ -40,7 +40,7 @@ placed_light x y hx hy =
     record { x_advance = z; y_advance = z; x_offset = hx; y_offset = hy }
 
 abbrev AllUnmoved : List Cell → Type 0
-AllUnmoved cs = All (λ (c : Cell). Unmoved c.position) cs
+AllUnmoved cs = AllByRecursion (λ (c : Cell). Unmoved c.position) cs
 
 module _ (f : FaceMeaning) (keeps : Keeps f) (s : Settings) where
   -- a base that was not moved spans its own box

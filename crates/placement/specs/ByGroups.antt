@@ -1,6 +1,6 @@
 -- A line by its groups: a base and the marks after it are placed by themselves, so a line may be cut before any base.
 use Rattle.std.specs.Prelude.{◌≡◌, ◌≤◌, true, false, List, [], ◌∷◌, ◌++◌, map, length}
-use Rattle.std.specs.List.{AllByRecursion as All}
+use Rattle.std.specs.List.{AllByRecursion}
 use Rattle.signs.specs.declared.SignRow.{SignRow}
 use Rattle.signs.specs.Rows.{is_mark, read_row}
 use Rattle.signs.specs.Reclassing.{reclassed}
@@ -22,12 +22,12 @@ Opens (c ∷ cs) = is_mark c.row ≡ false
 
 -- A base and its marks, whatever their positions, and then the rest of the line as if it stood alone.
 abbrev pub OneGroup : Type 0
-OneGroup = (f : FaceMeaning) (s : Settings) (base : Cell) (marks rest : List Cell) → is_mark base.row ≡ false → All IsMark marks → Opens rest
+OneGroup = (f : FaceMeaning) (s : Settings) (base : Cell) (marks rest : List Cell) → is_mark base.row ≡ false → AllByRecursion IsMark marks → Opens rest
     → placed_line f s (base ∷ (marks ++ rest)) ≡ group f s (base ∷ marks) ++ placed_line f s rest
 
 -- Marks before the first base stay as they are.
 abbrev pub LeadingMarks : Type 0
-LeadingMarks = (f : FaceMeaning) (s : Settings) (marks rest : List Cell) → All IsMark marks → placed_line f s (marks ++ rest) ≡ marks ++ placed_line f s rest
+LeadingMarks = (f : FaceMeaning) (s : Settings) (marks rest : List Cell) → AllByRecursion IsMark marks → placed_line f s (marks ++ rest) ≡ marks ++ placed_line f s rest
 
 -- A line may be cut before a base: both parts are placed as if each stood alone.
 abbrev pub CutLines : Type 0

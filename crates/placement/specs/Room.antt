@@ -1,6 +1,6 @@
 -- Boxes that leave room for every sum of a placement in 32 bits.
 use Rattle.std.specs.Prelude.{ℕ, ◌+◌, ◌*◌, ◌≤◌, List, ℤ, pos, neg_ℤ, ◌≤ℤ◌, Some, None, Option}
-use Rattle.std.specs.List.{AllByRecursion as All}
+use Rattle.std.specs.List.{AllByRecursion}
 use Rattle.signs.specs.declared.SignRow.{SignRow}
 use Rattle.placement.specs.declared.extents.Extents.{Extents}
 use Rattle.placement.specs.declared.position.Position.{Position}
@@ -48,7 +48,7 @@ Near n w = NearFrom 40032768 n w
 
 -- Lists of what a line may hold.
 abbrev pub AllLight : List Position → Type 0
-AllLight ps = All Light ps
+AllLight ps = AllByRecursion Light ps
 
 abbrev pub AllGlyphs : List SignRow → Type 0
-AllGlyphs rs = All (λ (r : SignRow). r.code ≤ 65535) rs
+AllGlyphs rs = AllByRecursion (λ (r : SignRow). r.code ≤ 65535) rs

@@ -2,17 +2,17 @@ use Rattle.std.proofs.Common.{◌≡◌, ◌<◌, ◌++◌, length, get_or, take
 use Rattle.std.proofs.ByRecursion.{All-get_or}
 use Rattle.std.proofs.lemmas.List.{take_all}
 use Rattle.placement.specs.Room.{Light}
-use Rattle.looks.specs.Drawing.{drawn_in, side}
-use Rattle.looks.specs.Pens.{item_at, no_row, nowhere, pen_after, Near}
-use Rattle.looks.proofs.Sums.{near_most}
-use Rattle.looks.proofs.Turns.{into_more, drawing_length, turn_drawn}
-use Rattle.looks.proofs.drawing.draw_items.Goals as goal
+use Rattle.drawing.specs.Drawing.{drawn_in, side}
+use Rattle.drawing.specs.Pens.{item_at, no_row, nowhere, pen_after, Near}
+use Rattle.drawing.proofs.Sums.{near_most}
+use Rattle.drawing.proofs.Turns.{into_more, drawing_length, turn_drawn}
+use Rattle.drawing.proofs.drawing.draw_items.Goals as goal
 
 pub item-requires : goal.item-requires
 item-requires c =
     let ps = c.args.positions.now in
     let k = c.loop-k.k in
-    (subst (Near 256) (sym (c.requires.pens k (omega arith))) (near_most c.args.forward ps c.requires.light k (omega arith) c.requires.few), All-get_or Light ps c.place-at-place.result nowhere c.place-at-place.ensures.within c.requires.light)
+    (subst (Near 256) (sym (c.requires.pens k (omega arith))) (near_most c.args.forward ps c.requires.light k (omega arith) c.requires.few), All-get_or Light ps c.place_at-place.result nowhere c.place_at-place.ensures.within c.requires.light)
 
 pub loop-k-preserved : goal.loop-k-preserved
 loop-k-preserved c =
@@ -23,11 +23,11 @@ loop-k-preserved c =
     let goal = drawn_in forward (side rows ps) in
     let l = drawing_length forward rows ps c.requires.long in
     let h : k < length ps = omega arith in
-    let here = c.place-at-place.result in
+    let here = c.place_at-place.result in
     let is : c.item.result ≡ get_or goal k c.item.result =
     c.item.ensures
     ∙ ap (λ q. item_at q here (get_or rows here no_row) (get_or ps here nowhere)) (c.requires.pens k h)
-    ∙ ap (λ q. item_at (pen_after forward ps k) q (get_or rows q no_row) (get_or ps q nowhere)) c.place-at-place.ensures.value
+    ∙ ap (λ q. item_at (pen_after forward ps k) q (get_or rows q no_row) (get_or ps q nowhere)) c.place_at-place.ensures.value
     ∙ sym (turn_drawn forward rows ps c.requires.long k c.item.result h) in
     into_more goal c.args.items.now c.loop-k.items k c.item.result (omega arith) (omega arith) c.loop-k.invariant is
 

@@ -1,6 +1,6 @@
 use Rattle.std.proofs.Common.{◌≡◌, ◌++◌, take, drop}
-use Rattle.looks.specs.Drawing.{drawn_in, side}
-use Rattle.looks.proofs.drawing.draw_items.Given as goal
+use Rattle.drawing.specs.Drawing.{drawn_in, side}
+use Rattle.drawing.proofs.drawing.draw_items.Given as goal
 
 -- so far the first k items are drawn
 abbrev pub invariant-loop-k : goal.invariant-loop-k

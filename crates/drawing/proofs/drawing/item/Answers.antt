@@ -1,6 +1,6 @@
-use Rattle.looks.proofs.Fields.{same_item}
-use Rattle.looks.proofs.Sums.{sum}
-use Rattle.looks.proofs.drawing.item.Goals as goal
+use Rattle.drawing.proofs.Fields.{same_item}
+use Rattle.drawing.proofs.Sums.{sum}
+use Rattle.drawing.proofs.drawing.item.Goals as goal
 
 pub returns : goal.returns
 returns c =

@@ -1,6 +1,6 @@
-use Rattle.looks.proofs.Fields.{same_pen}
-use Rattle.looks.proofs.Sums.{sum, wider}
-use Rattle.looks.proofs.drawing.move_pen.Goals as goal
+use Rattle.drawing.proofs.Fields.{same_pen}
+use Rattle.drawing.proofs.Sums.{sum, wider}
+use Rattle.drawing.proofs.drawing.move_pen.Goals as goal
 
 pub returns : goal.returns
 returns c =

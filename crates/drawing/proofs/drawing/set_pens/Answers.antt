@@ -2,15 +2,15 @@ use Rattle.std.proofs.Common.{◌≡◌, ◌<◌, ◌≢◌, length, get_or, set
 use Rattle.std.proofs.ByRecursion.{All-get_or}
 use Rattle.std.proofs.lemmas.List.{get_or-set_same, get_or-set_other}
 use Rattle.placement.specs.Room.{Light}
-use Rattle.looks.specs.Pens.{start, move_pen, nowhere, pen_after, Near}
-use Rattle.looks.proofs.Sums.{near_most}
-use Rattle.looks.proofs.drawing.set_pens.Goals as goal
+use Rattle.drawing.specs.Pens.{start, move_pen, nowhere, pen_after, Near}
+use Rattle.drawing.proofs.Sums.{near_most}
+use Rattle.drawing.proofs.drawing.set_pens.Goals as goal
 
-pub move-pen-pen-requires : goal.move-pen-pen-requires
-move-pen-pen-requires c =
+pub move_pen-pen-requires : goal.move_pen-pen-requires
+move_pen-pen-requires c =
     let ps = c.args.positions.now in
     let l = c.loop-k in
-    (subst (Near 256) (sym l.invariant.0) (near_most c.args.forward ps c.requires.light l.k (omega arith) c.requires.few), All-get_or Light ps c.place-at.result nowhere c.place-at.ensures.within c.requires.light)
+    (subst (Near 256) (sym l.invariant.0) (near_most c.args.forward ps c.requires.light l.k (omega arith) c.requires.few), All-get_or Light ps c.place_at.result nowhere c.place_at.ensures.within c.requires.light)
 
 pub loop-k-preserved : goal.loop-k-preserved
 loop-k-preserved c =
@@ -19,9 +19,9 @@ loop-k-preserved c =
     let l = c.loop-k in
     let k = l.k in
     let room : k < length l.pens = omega arith in (
-      c.move-pen-pen.ensures
-          ∙ ap (λ q. move_pen q (get_or ps c.place-at.result nowhere)) l.invariant.0
-          ∙ ap (λ q. move_pen (pen_after forward ps k) (get_or ps q nowhere)) c.place-at.ensures.value
+      c.move_pen-pen.ensures
+          ∙ ap (λ q. move_pen q (get_or ps c.place_at.result nowhere)) l.invariant.0
+          ∙ ap (λ q. move_pen (pen_after forward ps k) (get_or ps q nowhere)) c.place_at.ensures.value
           ∙ ap (pen_after forward ps) (sym (add-one k)),
       below_more (λ j. get_or (set l.pens k l.pen) j start ≡ pen_after forward ps j) k
           (λ j h. let ne : j ≢ k = omega arith in get_or-set_other l.pens k j l.pen start ne ∙ l.invariant.1 j h)

@@ -1,6 +1,6 @@
 use Rattle.std.proofs.Common.{◌≡◌, ℕ, ◌<◌, get_or}
-use Rattle.looks.specs.Pens.{start, pen_after}
-use Rattle.looks.proofs.drawing.set_pens.Given as goal
+use Rattle.drawing.specs.Pens.{start, pen_after}
+use Rattle.drawing.proofs.drawing.set_pens.Given as goal
 
 -- so far k pens are noted, and the pen stands after k signs
 abbrev pub invariant-loop-k : goal.invariant-loop-k
