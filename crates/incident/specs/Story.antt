@@ -4,7 +4,7 @@ use Rattle.signs.specs.declared.SignRow.{SignRow}
 use Rattle.faces.specs.Meaning.{FaceMeaning}
 use Rattle.placement.specs.declared.Settings.{Settings}
 use Rattle.placement.specs.declared.Direction.TheVariants.{RightToLeft}
-use Rattle.looks.specs.declared.Item.{Item}
+use Rattle.drawings.specs.declared.Item.{Item}
 use Rattle.legends.specs.declared.Call.{Call}
 use Rattle.legends.specs.declared.Call.TheVariants.{Put, Turn}
 use Rattle.legends.specs.Promise.{Look}

@@ -6,7 +6,7 @@ ghost use Rattle.legends.specs.Promise.{from_blank};
 use crate::places::{NO_ITEM, NOWHERE, START};
 use faces::Face;
 use legends::Refusal;
-use looks::{Item, draw_line, look_stands};
+use drawings::{Item, draw_line, drawings_stand};
 use placement::{Settings, lines_stand, route_line};
 use signs::SignRow;
 
@@ -19,7 +19,7 @@ pub fn from_blank<F: Face>(
     ensures { IsOkAnd result (λ items. items ≡ from_blank (F.meaning face.now) (book_of settings signs)) }
 {
     let _ = lines_stand();
-    let _ = look_stands();
+    let _ = drawings_stand();
     let mut rows = signs;
     let mut positions = [NOWHERE; 2];
     let mut items = [NO_ITEM; 2];

@@ -1,5 +1,5 @@
 // What lists hold before anything is written in them.
-use looks::{Item, Pen};
+use drawings::{Item, Pen};
 use placement::Position;
 use signs::SignRow;
 

@@ -1,5 +1,5 @@
 // What a keeper sees after each report: the two items of the gate's letter and of its bar.
-use looks::Item;
+use drawings::Item;
 
 pub mod telling;
 

@@ -7,9 +7,9 @@ use Rattle.placement.specs.ByGroups.{LinesStand}
 use Rattle.placement.specs.Bounded.{bounded}
 use Rattle.placement.specs.Lines.{Cell, rows_of, positions_of}
 use Rattle.placement.specs.Route.{route}
-use Rattle.looks.specs.declared.Item.{Item}
-use Rattle.looks.specs.Laws.{LooksStand}
-use Rattle.looks.specs.Promise.{Promise}
+use Rattle.drawings.specs.declared.Item.{Item}
+use Rattle.drawings.specs.Laws.{DrawingsStand}
+use Rattle.drawings.specs.Promise.{Promise}
 use Rattle.legends.specs.declared.call.Call.{Call}
 use Rattle.legends.specs.Book.{Book, book_after}
 use Rattle.legends.specs.Fits.{fit}
@@ -23,7 +23,7 @@ use Rattle.legends.proofs.Steps.{in_step_lem}
 same_length : (n a b c : ℕ) → a ≡ n → b ≡ n → c ≡ n → fit n a b c ≡ leb n 256
 same_length n a b c p q r = grind (arith, nat_tests)
 
-module _ (lines : LinesStand) (looks : LooksStand) where
+module _ (lines : LinesStand) (looks : DrawingsStand) where
   fitting : Fitting
   fitting f n calls =
       let b : Book = book_after n calls in

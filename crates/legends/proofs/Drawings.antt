@@ -5,23 +5,23 @@ use Rattle.signs.specs.declared.SignRow.{SignRow}
 use Rattle.placement.specs.declared.Position.{Position}
 use Rattle.placement.specs.Bounded.{bounded}
 use Rattle.placement.specs.Steps as line
-use Rattle.looks.specs.declared.Refusal.{Refusal as Drawing-as-Refusal}
-use Rattle.looks.specs.declared.Refusal.TheVariants as drawing
-use Rattle.looks.specs.DrawAnswers as drawing·line
-use Rattle.looks.specs.DrawAnswers.{has_room}
+use Rattle.drawings.specs.declared.Refusal.{Refusal as DrawingRefusal}
+use Rattle.drawings.specs.declared.Refusal.TheVariants as drawing
+use Rattle.drawings.specs.DrawAnswers as draw_answers
+use Rattle.drawings.specs.DrawAnswers.{has_room}
 use Rattle.legends.specs.declared.legend.Legend.{Legend}
 use Rattle.legends.specs.declared.refusal.Refusal.{Refusal}
 use Rattle.legends.specs.declared.refusal.Refusal.TheVariants.{Length, NoRoom, OutOfBounds}
-use Rattle.legends.specs.Refusals.{from_looks}
+use Rattle.legends.specs.Refusals.{from_drawing}
 use Rattle.legends.specs.Fits.{Fit}
 use Rattle.legends.specs.Leaves.{state}
 use Rattle.legends.specs.Answers.{fits, draw_answer}
 
-abbrev pub risen : Result (Unit {0}) Drawing-as-Refusal → Result (Unit {0}) Refusal
+abbrev pub risen : Result (Unit {0}) DrawingRefusal → Result (Unit {0}) Refusal
 risen (Ok x) = Ok x
-risen (Err e) = Err (from_looks e)
+risen (Err e) = Err (from_drawing e)
 
-abbrev line_answer : Bool → Bool → Bool → Result (Unit {0}) Drawing-as-Refusal
+abbrev line_answer : Bool → Bool → Bool → Result (Unit {0}) DrawingRefusal
 line_answer u v w = cond (not u) (Err drawing.Length) (cond (not v) (Err drawing.NoRoom) (cond (not w) (Err drawing.OutOfBounds) (Ok tt)))
 
 abbrev legend_answer : Bool → Bool → Bool → Result (Unit {0}) Refusal
@@ -36,7 +36,7 @@ line_fits : (n p : ℕ) → n ≤ 256 → p ≡ n → line.fits n n p ≡ true
 line_fits n p few e = grind (arith, nat_tests)
 
 pub answer_rises : (l : Legend) (signs mapped : List SignRow) (positions : List Position) → Fit l.len (length signs) (length mapped) (length positions) → fits (state l signs mapped positions) ≡ true
-    → (items pens : ℕ) (r : Result (Unit {0}) Drawing-as-Refusal) → r ≡ drawing·line.draw_answer mapped positions items pens
+    → (items pens : ℕ) (r : Result (Unit {0}) DrawingRefusal) → r ≡ draw_answers.draw_answer mapped positions items pens
     → risen r ≡ draw_answer items pens (bounded mapped positions) (state l signs mapped positions)
 answer_rises l signs mapped positions fit all items pens r e =
     let n = fit.of_mapped in

@@ -6,9 +6,9 @@ use Rattle.std.proofs.lemmas.Bool.Decides.{nat_tests}
 use Rattle.signs.specs.declared.SignRow.{SignRow}
 use Rattle.placement.specs.declared.Position.{Position}
 use Rattle.placement.specs.Bounded.{bounded}
-use Rattle.looks.specs.declared.Item.{Item}
-use Rattle.looks.specs.DrawAnswers.{has_room}
-use Rattle.looks.specs.Drawing.{drawn, drawn_over, side}
+use Rattle.drawings.specs.declared.Item.{Item}
+use Rattle.drawings.specs.DrawAnswers.{has_room}
+use Rattle.drawings.specs.Drawing.{drawn, drawn_over, side}
 use Rattle.legends.specs.declared.legend.Legend.{Legend}
 use Rattle.legends.specs.declared.call.Call.TheVariants.{Draw}
 use Rattle.legends.specs.declared.refusal.Refusal.{Refusal}

@@ -9,10 +9,10 @@ use Rattle.placement.specs.declared.Settings.{Settings}
 use Rattle.placement.specs.Bounded.{bounded}
 use Rattle.placement.specs.Directions.{is_forward}
 use Rattle.placement.specs.Route.{route}
-use Rattle.looks.specs.declared.Item.{Item}
-use Rattle.looks.specs.DrawAnswers.{has_room}
-use Rattle.looks.specs.Drawing.{drawn, drawn_over, side}
-use Rattle.looks.specs.Laws.{LooksStand}
+use Rattle.drawings.specs.declared.Item.{Item}
+use Rattle.drawings.specs.DrawAnswers.{has_room}
+use Rattle.drawings.specs.Drawing.{drawn, drawn_over, side}
+use Rattle.drawings.specs.Laws.{DrawingsStand}
 use Rattle.legends.specs.declared.call.Call.{Call}
 use Rattle.legends.specs.declared.legend.Legend.{Legend}
 use Rattle.legends.specs.declared.refusal.Refusal.{Refusal}
@@ -24,7 +24,7 @@ use Rattle.legends.specs.Answers.{fits, draw_answer, room_answer}
 use Rattle.legends.specs.Laws.{HistoriesStand}
 use Rattle.legends.specs.Promise.{Look, from_blank}
 
-module _ (looks : LooksStand) (s : Settings) (mapped : List SignRow) (positions : List Position) (items : List Item) (n : ℕ)
+module _ (looks : DrawingsStand) (s : Settings) (mapped : List SignRow) (positions : List Position) (items : List Item) (n : ℕ)
     (of_mapped : length mapped ≡ n) (of_positions : length positions ≡ n) where
   drawn_long : length (drawn s (side mapped positions)) ≡ n
   drawn_long = (looks.turn_by_turn (is_forward s.direction) mapped positions (of_positions ∙ sym of_mapped)).as_many ∙ of_positions

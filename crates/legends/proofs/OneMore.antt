@@ -5,9 +5,9 @@ use Rattle.std.proofs.lemmas.Bool.Decides.{nat_tests}
 use Rattle.signs.specs.declared.SignRow.{SignRow}
 use Rattle.faces.specs.Meaning.{FaceMeaning}
 use Rattle.placement.specs.declared.Position.{Position}
-use Rattle.looks.specs.declared.Item.{Item}
-use Rattle.looks.specs.Laws.{LooksStand}
-use Rattle.looks.specs.DrawAnswers.{has_room}
+use Rattle.drawings.specs.declared.Item.{Item}
+use Rattle.drawings.specs.Laws.{DrawingsStand}
+use Rattle.drawings.specs.DrawAnswers.{has_room}
 use Rattle.legends.specs.declared.legend.Legend.{Legend}
 use Rattle.legends.specs.declared.call.Call.{Call}
 use Rattle.legends.specs.declared.call.Call.TheVariants.{Put, Turn, Draw}
@@ -35,7 +35,7 @@ module _ (f : FaceMeaning) where
   left_all n calls i st h was = was ∙ ap (left_by f n) (take_all i calls h)
 
 -- no call writes in the drawing past the signs
-module _ (looks : LooksStand) (l : Legend) (signs mapped : List SignRow) (positions : List Position) (items : List Item) (n : ℕ) (same : l.len ≡ n)
+module _ (looks : DrawingsStand) (l : Legend) (signs mapped : List SignRow) (positions : List Position) (items : List Item) (n : ℕ) (same : l.len ≡ n)
     (fit : Fit l.len (length signs) (length mapped) (length positions)) where
   past : (c : Call) → drop n (drawn_by c (state l signs mapped positions) items) ≡ drop n items
   past (Put lent place row) = refl

@@ -2,8 +2,8 @@
 use Rattle.std.specs.Prelude.{◌≡◌, ℕ, ◌≤◌, true, List, take, nat_le}
 use Rattle.faces.specs.Meaning.{FaceMeaning, Keeps}
 use Rattle.placement.specs.Bounded.{bounded}
-use Rattle.looks.specs.declared.Item.{Item}
-use Rattle.looks.specs.Laws.{LooksStand}
+use Rattle.drawings.specs.declared.Item.{Item}
+use Rattle.drawings.specs.Laws.{DrawingsStand}
 use Rattle.legends.specs.declared.call.Call.{Call}
 use Rattle.legends.specs.Book.{book_after}
 use Rattle.legends.specs.Last.{Alike}
@@ -37,4 +37,4 @@ pub record HistoriesStand : Type 0 where
   pub fitting : Fitting
   pub drawable : Drawable
   pub promise : LooksPromise
-  pub looks : LooksStand
+  pub looks : DrawingsStand

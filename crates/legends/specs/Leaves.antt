@@ -1,6 +1,5 @@
 -- What each call leaves of a legend and its three lists: the signs put, the signs mapped, and their positions.
 use Rattle.std.specs.Prelude.{◌≡◌, ℕ, Bool, cond, List, [], ◌∷◌, ◌++◌, take, drop, replicate, Ok, Err, Result, slice_set}
-use Rattle.std.specs.Borrow.{Bor}
 use Rattle.std.specs.List.{between}
 use Rattle.signs.specs.declared.SignRow.{SignRow}
 use Rattle.faces.specs.Meaning.{FaceMeaning}
@@ -8,8 +7,8 @@ use Rattle.placement.specs.declared.Position.{Position}
 use Rattle.placement.specs.declared.Settings.{Settings}
 use Rattle.placement.specs.Lines.{Cell, rows_of, positions_of}
 use Rattle.placement.specs.Route.{route}
-use Rattle.looks.specs.declared.Item.{Item}
-use Rattle.looks.specs.Drawing.{drawn_over}
+use Rattle.drawings.specs.declared.Item.{Item}
+use Rattle.drawings.specs.Drawing.{drawn_over}
 use Rattle.legends.specs.declared.legend.Legend.{Legend}
 use Rattle.legends.specs.declared.refusal.Refusal.{Refusal}
 use Rattle.legends.specs.declared.call.Call.{Call}
@@ -26,10 +25,6 @@ pub record State : Type 0 where
 
 abbrev pub state : Legend → List SignRow → List SignRow → List Position → State
 state legend signs mapped positions = record { legend = legend; signs = signs; mapped = mapped; positions = positions }
-
--- The legend and the lists that these references show.
-abbrev pub at : Bor Legend → Bor (List SignRow) → Bor (List SignRow) → Bor (List Position) → State
-at legend signs mapped positions = state legend.now signs.now mapped.now positions.now
 
 -- The three lists alone.
 abbrev pub Lists : Type 0

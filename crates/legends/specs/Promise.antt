@@ -3,9 +3,9 @@
 -- over any face within its limits; its first n items are what is seen.
 use Rattle.std.specs.Prelude.{◌≡◌, ℕ, List, take}
 use Rattle.faces.specs.Meaning.{FaceMeaning}
-use Rattle.looks.specs.declared.Item.{Item}
-use Rattle.looks.specs.Drawing.{look}
-use Rattle.looks.specs.Promise.{Shown, Clear, InTheMiddle}
+use Rattle.drawings.specs.declared.Item.{Item}
+use Rattle.drawings.specs.Drawing.{look}
+use Rattle.drawings.specs.Promise.{Shown, Clear, InTheMiddle}
 use Rattle.legends.specs.declared.call.Call.{Call}
 use Rattle.legends.specs.Book.{Book, book_after}
 use Rattle.legends.specs.Last.{Alike}

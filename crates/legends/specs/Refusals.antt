@@ -2,8 +2,8 @@
 use Rattle.std.specs.Prelude.{ℕ}
 use Rattle.placement.specs.declared.Refusal.{Refusal as Line-as-Refusal}
 use Rattle.placement.specs.declared.Refusal.TheVariants as line
-use Rattle.looks.specs.declared.Refusal.{Refusal as Drawing-as-Refusal}
-use Rattle.looks.specs.declared.Refusal.TheVariants as drawing
+use Rattle.drawings.specs.declared.Refusal.{Refusal as DrawingRefusal}
+use Rattle.drawings.specs.declared.Refusal.TheVariants as drawing
 use Rattle.legends.specs.declared.refusal.Refusal.{Refusal}
 use Rattle.legends.specs.declared.refusal.Refusal.TheVariants.{Length, NoPlace, NoRoom, OutOfBounds}
 
@@ -17,7 +17,7 @@ abbrev pub from_placement : Line-as-Refusal → Refusal
 from_placement line.Length = Length
 from_placement line.OutOfBounds = OutOfBounds
 
-abbrev pub from_looks : Drawing-as-Refusal → Refusal
-from_looks drawing.Length = Length
-from_looks drawing.NoRoom = NoRoom
-from_looks drawing.OutOfBounds = OutOfBounds
+abbrev pub from_drawing : DrawingRefusal → Refusal
+from_drawing drawing.Length = Length
+from_drawing drawing.NoRoom = NoRoom
+from_drawing drawing.OutOfBounds = OutOfBounds

@@ -3,9 +3,9 @@ ghost use Rattle.std.specs.Prelude.{◌≡◌, ◌≤◌, true, ◌++◌, length
 ghost use Rattle.legends.specs.Answers.{answer_to, look_answer};
 ghost use Rattle.legends.specs.Book.{book_after};
 ghost use Rattle.legends.specs.Fits.{Fit};
-ghost use Rattle.legends.specs.Leaves.{at, drawn_by, leaves, left_by, lists, lists_of};
+ghost use Rattle.legends.specs.Leaves.{state, drawn_by, leaves, left_by, lists, lists_of};
 ghost use Rattle.legends.specs.Promise.{Look, from_blank};
-ghost use Rattle.looks.specs.DrawAnswers.{PensAfter};
+ghost use Rattle.drawings.specs.DrawAnswers.{PensAfter};
 ghost use Rattle.placement.specs.Bounded.{bounded};
 
 use crate::call::Call;
@@ -14,8 +14,8 @@ use crate::legend::Legend;
 use crate::legend::calls::fitting;
 use crate::lent::{draw_lent, put_lent, turn_lent};
 use crate::refusal::Refusal;
+use drawings::{Item, Pen};
 use faces::Face;
-use looks::{Item, Pen};
 use placement::Position;
 use signs::SignRow;
 
@@ -34,8 +34,8 @@ fn obey<F: Face>(
     requires room { (legend.old.len ≤ length items.old) × (legend.old.len ≤ length pens.old) }
     requires bounded { bounded mapped.old positions.old ≡ true }
     ensures answer { result ≡ answer_to legend.old.len call }
-    ensures lists { at legend.exit signs.exit mapped.exit positions.exit ≡ leaves (F.meaning face.now) call (at legend.entry signs.entry mapped.entry positions.entry) }
-    ensures items { items.new ≡ (if is_ok result then drawn_by call (at legend.entry signs.entry mapped.entry positions.entry) items.old else items.old) }
+    ensures lists { state legend.new signs.new mapped.new positions.new ≡ leaves (F.meaning face.now) call (state legend.old signs.old mapped.old positions.old) }
+    ensures items { items.new ≡ (if is_ok result then drawn_by call (state legend.old signs.old mapped.old positions.old) items.old else items.old) }
 {
     match call {
         Call::Put { lent, place, row } => {

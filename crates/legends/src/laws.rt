@@ -2,7 +2,7 @@
 ghost use Rattle.legends.specs.Laws.{HistoriesStand};
 ghost use Rattle.legends.specs.Worked.{WorkedLegends};
 
-use looks::look_stands;
+use drawings::drawings_stand;
 use placement::lines_stand;
 
 // What holds after any list of calls: the lists follow the book, and a look shows the book and keeps its promise.
@@ -10,7 +10,7 @@ pub fn histories_stand() -> bool
     ensures { HistoriesStand }
 {
     let _ = lines_stand();
-    look_stands()
+    drawings_stand()
 }
 
 // Worked books and spans.

@@ -2,16 +2,16 @@
 ghost use Rattle.std.specs.Prelude.{◌≡◌, ◌≤◌, true, length, is_ok, if◌then◌else◌};
 ghost use Rattle.legends.specs.Fits.{Fit};
 ghost use Rattle.legends.specs.Answers.{answer_to};
-ghost use Rattle.legends.specs.Leaves.{at, leaves};
+ghost use Rattle.legends.specs.Leaves.{state, leaves};
 ghost use Rattle.legends.specs.Lending.{reaching};
 ghost use Rattle.legends.specs.declared.call.Call.TheVariants.{Draw, Put, Turn};
-ghost use Rattle.looks.specs.Drawing.{drawn_over};
+ghost use Rattle.drawings.specs.Drawing.{drawn_over};
 ghost use Rattle.placement.specs.Bounded.{bounded};
 
 use crate::legend::Legend;
 use crate::refusal::Refusal;
+use drawings::{Item, Pen};
 use faces::Face;
-use looks::{Item, Pen};
 use placement::{Position, Settings};
 use signs::SignRow;
 
@@ -35,7 +35,7 @@ pub(crate) fn put_lent<F: Face>(
 ) -> Result<(), Refusal>
     requires { Fit legend.now.len (length signs.old) (length mapped.old) (length positions.old) }
     ensures answer { result ≡ answer_to legend.now.len (Put lent place row) }
-    ensures lists { at legend.entry signs.exit mapped.exit positions.exit ≡ leaves (F.meaning face.now) (Put lent place row) (at legend.entry signs.entry mapped.entry positions.entry) }
+    ensures lists { state legend.now signs.new mapped.new positions.new ≡ leaves (F.meaning face.now) (Put lent place row) (state legend.now signs.old mapped.old positions.old) }
 {
     let end = reach(legend.len, lent);
     legend.put(
@@ -59,7 +59,7 @@ pub(crate) fn turn_lent<F: Face>(
 ) -> Result<(), Refusal>
     requires { Fit legend.old.len (length signs.now) (length mapped.old) (length positions.old) }
     ensures answer { result ≡ answer_to legend.old.len (Turn lent settings) }
-    ensures lists { at legend.exit signs.entry mapped.exit positions.exit ≡ leaves (F.meaning face.now) (Turn lent settings) (at legend.entry signs.entry mapped.entry positions.entry) }
+    ensures lists { state legend.new signs.now mapped.new positions.new ≡ leaves (F.meaning face.now) (Turn lent settings) (state legend.old signs.now mapped.old positions.old) }
 {
     let end = reach(legend.len, lent);
     legend.turn(

@@ -1,6 +1,6 @@
 // Why a call on a legend is not carried out.
 ghost use Rattle.std.specs.Prelude.{◌≡◌};
-ghost use Rattle.legends.specs.Refusals.{from_looks, from_placement, number_of};
+ghost use Rattle.legends.specs.Refusals.{from_drawing, from_placement, number_of};
 
 #[derive(Clone, Copy, PartialEq, Eq, Debug)]
 pub enum Refusal {
@@ -39,14 +39,14 @@ impl From<placement::Refusal> for Refusal {
     }
 }
 
-impl From<looks::Refusal> for Refusal {
-    ghost from_gives = { λ e r. r ≡ from_looks e };
+impl From<drawings::Refusal> for Refusal {
+    ghost from_gives = { λ e r. r ≡ from_drawing e };
 
-    fn from(refusal: looks::Refusal) -> Refusal {
+    fn from(refusal: drawings::Refusal) -> Refusal {
         match refusal {
-            looks::Refusal::Length => Refusal::Length,
-            looks::Refusal::NoRoom => Refusal::NoRoom,
-            looks::Refusal::OutOfBounds => Refusal::OutOfBounds,
+            drawings::Refusal::Length => Refusal::Length,
+            drawings::Refusal::NoRoom => Refusal::NoRoom,
+            drawings::Refusal::OutOfBounds => Refusal::OutOfBounds,
         }
     }
 }

@@ -2,7 +2,7 @@
 use Rattle.std.proofs.Common.{◌≡◌, List, sym, ◌∙◌, arith}
 use Rattle.std.proofs.lemmas.List.{take_all}
 use Rattle.faces.specs.Meaning.{FaceMeaning}
-use Rattle.looks.specs.declared.Item.{Item}
+use Rattle.drawings.specs.declared.Item.{Item}
 use Rattle.legends.specs.declared.Call.{Call}
 use Rattle.legends.specs.Book.{book_after}
 use Rattle.legends.specs.Promise.{from_blank}

@@ -2,8 +2,8 @@
 -- though both bars are glyph 2.
 use Rattle.std.specs.Prelude.{◌≡◌, List, [], ◌∷◌, pos, neg_ℤ}
 use Rattle.faces.specs.Meaning.{FaceMeaning}
-use Rattle.looks.specs.declared.Item.{Item}
-use Rattle.looks.specs.Drawing.{item}
+use Rattle.drawings.specs.declared.Item.{Item}
+use Rattle.drawings.specs.Drawing.{item}
 use Rattle.legends.specs.Book.{book_after}
 use Rattle.legends.specs.Promise.{from_blank}
 use Rattle.incident.specs.Story.{Told, then_closed}

@@ -5,7 +5,7 @@ mod font;
 mod shown;
 
 use anyhow::anyhow;
-use looks::Item;
+use drawings::Item;
 use shown::Shown;
 use shown::telling::on_the_panel;
 

@@ -1,6 +1,6 @@
 // What the panel shows of the incident, and its end drawn from blank.
 use incident::Story;
-use looks::Item;
+use drawings::Item;
 
 pub mod telling;
 

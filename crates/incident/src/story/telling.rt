@@ -2,7 +2,7 @@
 ghost use Rattle.std.specs.Prelude.{◌≡◌, List, IsOkAnd};
 ghost use Rattle.faces.specs.Meaning.{FaceMeaning, Keeps};
 ghost use Rattle.incident.specs.Story.{Seen, Told};
-ghost use Rattle.legends.specs.Leaves.{at, left_by};
+ghost use Rattle.legends.specs.Leaves.{left_by, state};
 ghost use Rattle.legends.specs.declared.Call.{Call};
 
 use crate::places::{NO_ITEM, NO_SIGN, NOWHERE, START};
@@ -10,13 +10,13 @@ use crate::reports::{BAR_BENEATH, BAR_OVER, LETTER};
 use crate::story::Story;
 use faces::Face;
 use legends::{Legend, Refusal};
-use looks::Item;
+use drawings::Item;
 use placement::{Direction, Position, Settings};
 use signs::SignRow;
 
 // What is seen of a legend of two signs. After calls it is never refused.
 fn seen(legend: &Legend, signs: &[SignRow], mapped: &[SignRow], positions: &[Position]) -> [Item; 2]
-    ensures { (f : FaceMeaning) → Keeps f → (calls : List Call) → at legend.entry signs.entry mapped.entry positions.entry ≡ left_by f 2 calls → Seen f calls result }
+    ensures { (f : FaceMeaning) → Keeps f → (calls : List Call) → state legend.now signs.now mapped.now positions.now ≡ left_by f 2 calls → Seen f calls result }
 {
     let mut items = [NO_ITEM; 2];
     let mut pens = [START; 2];

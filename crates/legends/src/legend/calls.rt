@@ -2,7 +2,7 @@
 ghost use Rattle.std.specs.Prelude.{◌≡◌, true, length, is_ok, if◌then◌else◌};
 ghost use Rattle.legends.specs.Answers.{make_answer, put_answer, turn_answer};
 ghost use Rattle.legends.specs.Fits.{Fit, fit};
-ghost use Rattle.legends.specs.Leaves.{InStep, Made, after_make, after_put, after_turn, at, left_if, lists, lists_of};
+ghost use Rattle.legends.specs.Leaves.{InStep, Made, after_make, after_put, after_turn, state, left_if, lists, lists_of};
 
 use crate::legend::Legend;
 use crate::refusal::Refusal;
@@ -64,9 +64,9 @@ impl Legend {
         place: usize,
         row: SignRow,
     ) -> Result<(), Refusal>
-        ensures answer { result ≡ put_answer place (at self.entry signs.entry mapped.entry positions.entry) }
-        ensures lists { at self.entry signs.exit mapped.exit positions.exit ≡ left_if (is_ok result) (after_put (F.meaning face.now) place row) (at self.entry signs.entry mapped.entry positions.entry) }
-        ensures step { InStep (F.meaning face.now) (at self.entry signs.entry mapped.entry positions.entry) → InStep (F.meaning face.now) (at self.entry signs.exit mapped.exit positions.exit) }
+        ensures answer { result ≡ put_answer place (state self.now signs.old mapped.old positions.old) }
+        ensures lists { state self.now signs.new mapped.new positions.new ≡ left_if (is_ok result) (after_put (F.meaning face.now) place row) (state self.now signs.old mapped.old positions.old) }
+        ensures step { InStep (F.meaning face.now) (state self.now signs.old mapped.old positions.old) → InStep (F.meaning face.now) (state self.now signs.new mapped.new positions.new) }
     {
         if !fitting(self.len, signs.len(), mapped.len(), positions.len()) {
             return Err(Refusal::Length);
@@ -96,8 +96,8 @@ impl Legend {
         positions: &mut [Position],
         settings: Settings,
     ) -> Result<(), Refusal>
-        ensures answer { result ≡ turn_answer (at self.entry signs.entry mapped.entry positions.entry) }
-        ensures lists { at self.exit signs.entry mapped.exit positions.exit ≡ left_if (is_ok result) (after_turn (F.meaning face.now) settings) (at self.entry signs.entry mapped.entry positions.entry) }
+        ensures answer { result ≡ turn_answer (state self.old signs.now mapped.old positions.old) }
+        ensures lists { state self.new signs.now mapped.new positions.new ≡ left_if (is_ok result) (after_turn (F.meaning face.now) settings) (state self.old signs.now mapped.old positions.old) }
     {
         if !fitting(self.len, signs.len(), mapped.len(), positions.len()) {
             return Err(Refusal::Length);

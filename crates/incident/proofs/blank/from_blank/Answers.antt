@@ -3,8 +3,8 @@ use Rattle.signs.specs.declared.SignRow.{SignRow}
 use Rattle.placement.specs.declared.Position.{Position}
 use Rattle.placement.specs.Lines.{Cell, rows_of, positions_of}
 use Rattle.placement.specs.Route.{route}
-use Rattle.looks.specs.declared.Item.{Item}
-use Rattle.looks.specs.Drawing.{item, drawn, side}
+use Rattle.drawings.specs.declared.Item.{Item}
+use Rattle.drawings.specs.Drawing.{item, drawn, side}
 use Rattle.incident.proofs.blank.from_blank.Goals as goal
 
 abbrev unwritten : List Item
@@ -24,4 +24,4 @@ returns g c =
     ∙ append-nil (drawn s (side rows positions))
     ∙ ap (λ (x : List SignRow). drawn s (side x positions)) routed.rows
     ∙ ap (λ (x : List Position). drawn s (side (rows_of cells) x)) routed.positions
-    ∙ ap (drawn s) (c.look-stands.ensures.side_by_side cells)
+    ∙ ap (drawn s) (c.drawings_stand.ensures.side_by_side cells)

@@ -1,6 +1,6 @@
 use Rattle.std.proofs.Common.{◌≡◌, ℕ, ◌<◌, ◌≤◌, true, ◌++◌, length, get_or, take, drop, Ok, sym, refl, ap, ◌∙◌, arith, rules}
 use Rattle.placement.specs.Bounded.{bounded}
-use Rattle.looks.specs.Drawing.{drawn, side}
+use Rattle.drawings.specs.Drawing.{drawn, side}
 use Rattle.legends.specs.declared.call.Call.TheVariants.{Put}
 use Rattle.legends.specs.Book.{book_after}
 use Rattle.legends.specs.Span.{no_row}
@@ -13,7 +13,7 @@ use Rattle.legends.proofs.histories.look_after.Goals as goal
 pub obey-requires : goal.obey-requires
 obey-requires g c =
     let f = g.F.Face.meaning c.args.face.now in
-    let stand = c.histories-stand.ensures in
+    let stand = c.histories_stand.ensures in
     let n = c.args.len in
     let l = c.loop-call in
     let done = take l.call-index c.args.calls.now in
@@ -26,12 +26,12 @@ obey-requires g c =
     }
 
 pub loop-call-init : goal.loop-call-init
-loop-call-init g c = (c.in-ok-legend.ensures.made, refl)
+loop-call-init g c = (c.in_ok-legend.ensures.made, refl)
 
 pub loop-call-preserved : goal.loop-call-preserved
 loop-call-preserved g c =
     let f = g.F.Face.meaning c.args.face.now in
-    let stand = c.histories-stand.ensures in
+    let stand = c.histories_stand.ensures in
     let n = c.args.len in
     let calls = c.args.calls.now in
     let l = c.loop-call in
@@ -47,10 +47,10 @@ loop-call-preserved g c =
       ap (drop n) c.obey.ensures.items ∙ past_stays stand.looks l.legend l.signs l.mapped l.positions l.items n same fit call _ ∙ l.invariant.1,
     )
 
-pub returns-in-err-draw : goal.returns-in-err-draw
-returns-in-err-draw g c =
+pub returns-in_err-draw : goal.returns-in_err-draw
+returns-in_err-draw g c =
     let f = g.F.Face.meaning c.args.face.now in
-    let stand = c.histories-stand.ensures in
+    let stand = c.histories_stand.ensures in
     let n = c.args.len in
     let calls = c.args.calls.now in
     let l = c.loop-call in
@@ -59,14 +59,14 @@ returns-in-err-draw g c =
     let left : st ≡ left_by f n calls = left_all f n calls l.call-index st (omega arith) l.invariant.0 in
     let same : l.legend.len ≡ n = as_many stand f n calls l.legend l.signs l.mapped l.positions left in
     let ok = draw_ok n (length l.items) (length l.pens) (omega arith) (omega arith) (omega arith) in
-    let both = c.in-err-draw.ensures.decided f (g.F.Face.keeps c.args.face.now) n calls left ∙ ok in
+    let both = c.in_err-draw.ensures.decided f (g.F.Face.keeps c.args.face.now) n calls left ∙ ok in
     let z : ◌≡◌ {A = ℕ} 0 1 = cc in
     absurd (omega arith)
 
 pub returns : goal.returns
 returns g c =
     let f = g.F.Face.meaning c.args.face.now in
-    let stand = c.histories-stand.ensures in
+    let stand = c.histories_stand.ensures in
     let n = c.args.len in
     let calls = c.args.calls.now in
     let l = c.loop-call in
@@ -75,7 +75,7 @@ returns g c =
     let left : st ≡ left_by f n calls = left_all f n calls l.call-index st (omega arith) l.invariant.0 in
     let same : l.legend.len ≡ n = as_many stand f n calls l.legend l.signs l.mapped l.positions left in
     let of_mapped : length l.mapped ≡ n = omega arith in
-    let made = c.in-ok-draw.ensures in
+    let made = c.in_ok-draw.ensures in
     let items = c.args.items.now in
     let goal = drawn l.legend.settings (side l.mapped l.positions) in
     record {

@@ -1,11 +1,11 @@
 use Rattle.std.proofs.Common.{◌≡◌, ℕ, true, false, cond, length, is_ok, Ok, Err, Result, sym, refl, ap, ◌∙◌, subst, arith, rules}
 use Rattle.std.proofs.lemmas.Result.{err_from_is_err_and}
 use Rattle.placement.specs.Bounded.{bounded}
-use Rattle.looks.specs.Drawing.{drawn_over}
-use Rattle.looks.specs.DrawAnswers.{PensAfter}
+use Rattle.drawings.specs.Drawing.{drawn_over}
+use Rattle.drawings.specs.DrawAnswers.{PensAfter}
 use Rattle.legends.specs.declared.refusal.Refusal.{Refusal}
 use Rattle.legends.specs.declared.refusal.Refusal.TheVariants.{Length}
-use Rattle.legends.specs.Refusals.{from_looks}
+use Rattle.legends.specs.Refusals.{from_drawing}
 use Rattle.legends.specs.Answers.{draw_answer}
 use Rattle.legends.specs.Leaves.{state}
 use Rattle.legends.proofs.Drawings.{answer_rises}
@@ -28,12 +28,12 @@ returns-then-not-fitting c =
       answer = answer;
       items = refl;
       pens = refl;
-      decided = λ f keeps n calls left. decided c.histories-stand.ensures f n calls l signs mapped positions left keeps room pens (Err Length) answer;
+      decided = λ f keeps n calls left. decided c.histories_stand.ensures f n calls l signs mapped positions left keeps room pens (Err Length) answer;
       look = λ f keeps n calls left ok. never ok;
     }
 
-pub returns-in-err-draw-line : goal.returns-in-err-draw-line
-returns-in-err-draw-line c =
+pub returns-in_err-draw_line : goal.returns-in_err-draw_line
+returns-in_err-draw_line c =
     let l = c.args.self.now in
     let signs = c.args.signs.now in
     let mapped = c.args.mapped.now in
@@ -41,18 +41,18 @@ returns-in-err-draw-line c =
     let room = length c.args.items.now in
     let pens = length c.args.pens.now in
     let fit = c.if-not-fitting.ensures in
-    let refused = c.in-err-draw-line.ensures in
-    let e = c.in-err-draw-line.field-0.0 in
-    let r = c.from-residual.result in
-    let by = err_from_is_err_and r c.from-residual.ensures.1 in
-    let is : r ≡ Err (from_looks e) = by.1 ∙ ap Err by.2 in
+    let refused = c.in_err-draw_line.ensures in
+    let e = c.in_err-draw_line.field-0.0 in
+    let r = c.from_residual.result in
+    let by = err_from_is_err_and r c.from_residual.ensures.1 in
+    let is : r ≡ Err (from_drawing e) = by.1 ∙ ap Err by.2 in
     let answer = is ∙ answer_rises l signs mapped positions (fit.lengths refl) (sym fit.value) room pens (Err e) refused.answer in
     let items = c.args.items.now in
     record {
       answer = answer;
       items = refused.items ∙ sym (ap (λ (a : Result (Unit {0}) Refusal). cond (is_ok a) (drawn_over l.settings mapped positions items) items) is);
-      pens = subst (λ (a : Result (Unit {0}) Refusal). PensAfter (is_ok a) c.args.pens.now c.draw-line.new.pens) (sym is) refused.pens;
-      decided = λ f keeps n calls left. decided c.histories-stand.ensures f n calls l signs mapped positions left keeps room pens r answer;
+      pens = subst (λ (a : Result (Unit {0}) Refusal). PensAfter (is_ok a) c.args.pens.now c.draw_line.new.pens) (sym is) refused.pens;
+      decided = λ f keeps n calls left. decided c.histories_stand.ensures f n calls l signs mapped positions left keeps room pens r answer;
       look = λ f keeps n calls left ok. never (sym (ap is_ok is) ∙ ok);
     }
 
@@ -65,12 +65,12 @@ returns c =
     let room = length c.args.items.now in
     let pens = length c.args.pens.now in
     let fit = c.if-not-fitting.ensures in
-    let drawn = c.in-ok-draw-line.ensures in
+    let drawn = c.in_ok-draw_line.ensures in
     let answer = answer_rises l signs mapped positions (fit.lengths refl) (sym fit.value) room pens (Ok tt) drawn.answer in
     record {
       answer = answer;
       items = drawn.items;
       pens = drawn.pens;
-      decided = λ f keeps n calls left. decided c.histories-stand.ensures f n calls l signs mapped positions left keeps room pens (Ok tt) answer;
-      look = λ f keeps n calls left ok. looks c.histories-stand.ensures f n calls l signs mapped positions left keeps (fit.lengths refl) c.args.items.now c.draw-line.new.items drawn.items;
+      decided = λ f keeps n calls left. decided c.histories_stand.ensures f n calls l signs mapped positions left keeps room pens (Ok tt) answer;
+      look = λ f keeps n calls left ok. looks c.histories_stand.ensures f n calls l signs mapped positions left keeps (fit.lengths refl) c.args.items.now c.draw_line.new.items drawn.items;
     }

@@ -20,14 +20,14 @@ returns g c =
     let h : p.0 ≤ p.1 = omega arith in
     let n : p.1 ≤ length mapped = omega arith in
     let l : length new ≡ length mapped = simp length-set (omega arith) in
-    let copied = c.copy-from-slice.new.self in
-    let was = c.copy-from-slice.ensures.after in
+    let copied = c.copy_from_slice.new.self in
+    let was = c.copy_from_slice.ensures.after in
     let is = c.span-first.ensures.value in
-    let routed = c.in-ok-route-line.ensures in
-    let a = step_on_copy new mapped copied c.route-line.new.rows (λ xs. rows_of (route f s xs)) p (span_of signs c.args.place) is h n l was routed.rows in
-    let b = step_on_part new mapped copied positions c.route-line.new.positions (λ xs. positions_of (route f s xs)) p (span_of signs c.args.place) is h n l was routed.positions in
+    let routed = c.in_ok-route_line.ensures in
+    let a = step_on_copy new mapped copied c.route_line.new.rows (λ xs. rows_of (route f s xs)) p (span_of signs c.args.place) is h n l was routed.rows in
+    let b = step_on_part new mapped copied positions c.route_line.new.positions (λ xs. positions_of (route f s xs)) p (span_of signs c.args.place) is h n l was routed.positions in
     let lists = same_lists a b in
-    let lines = c.lines-stand.ensures in
+    let lines = c.lines_stand.ensures in
     record { answer = search rules; lists = lists; step = λ h. lists ∙ ap (after_put f c.args.place c.args.row) h ∙ put_routed lines f c.args.self.now.len s signs c.args.place c.args.row (omega arith) }
 
 pub returns-then-not-fitting : goal.returns-then-not-fitting

@@ -1,6 +1,6 @@
 use Rattle.std.proofs.Common.{◌≡◌, ℕ, List, [], Some, Ok, Err, Result, ap, ◌∙◌}
 use Rattle.faces.specs.Meaning.{FaceMeaning}
-use Rattle.looks.specs.declared.Item.{Item}
+use Rattle.drawings.specs.declared.Item.{Item}
 use Rattle.legends.specs.declared.Call.{Call}
 use Rattle.legends.specs.Book.{book_after}
 use Rattle.legends.specs.Promise.{from_blank}

@@ -1,7 +1,0 @@
-use Rattle.std.proofs.Common.{◌≡◌, ◌++◌, take, drop}
-use Rattle.drawing.specs.Drawing.{drawn_in, side}
-use Rattle.drawing.proofs.drawing.draw_items.Given as goal
-
--- so far the first k items are drawn
-abbrev pub invariant-loop-k : goal.invariant-loop-k
-invariant-loop-k l = l.items ≡ take l.k (drawn_in l.forward (side l.rows l.positions)) ++ drop l.k l.initial.items

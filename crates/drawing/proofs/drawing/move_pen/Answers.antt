@@ -1,9 +1,0 @@
-use Rattle.drawing.proofs.Fields.{same_pen}
-use Rattle.drawing.proofs.Sums.{sum, wider}
-use Rattle.drawing.proofs.drawing.move_pen.Goals as goal
-
-pub returns : goal.returns
-returns c =
-    let near = c.requires.0 in
-    let light = c.requires.1 in
-    same_pen (sum _ _ near.x (wider _ light.x_advance)) (sum _ _ near.y (wider _ light.y_advance))

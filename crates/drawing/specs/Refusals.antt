@@ -1,9 +1,0 @@
--- The number of each refusal of a drawing.
-use Rattle.std.specs.Prelude.{ℕ}
-use Rattle.drawing.specs.declared.refusal.Refusal.{Refusal}
-use Rattle.drawing.specs.declared.refusal.Refusal.TheVariants.{Length, NoRoom, OutOfBounds}
-
-abbrev pub number_of : Refusal → ℕ
-number_of Length = 13
-number_of NoRoom = 15
-number_of OutOfBounds = 16

@@ -1,0 +1,110 @@
+// Drawing a line into lists that the caller lends: first the pen before each sign is noted, then each sign is drawn there.
+ghost use Rattle.std.specs.Prelude.{◌≡◌, ◌<◌, ◌≤◌, ◌++◌, length, drop, is_ok, if◌then◌else◌};
+ghost use Rattle.drawings.specs.DrawAnswers.{PensAfter, draw_answer};
+ghost use Rattle.drawings.specs.Drawing.{drawn_in, drawn_over, side};
+ghost use Rattle.drawings.specs.Pens.{Near, Penned, item_at, move_pen, place_at};
+ghost use Rattle.placement.specs.Room.{AllLight, Light};
+
+use crate::item::Item;
+use crate::pen::Pen;
+use crate::refusal::Refusal;
+use placement::{MOST_SIGNS, Position, Settings, all_bounded};
+use signs::SignRow;
+
+// The place that is drawn after k others.
+fn place_at(forward: bool, len: usize, k: usize) -> usize
+    requires { k < len }
+    ensures value { result ≡ place_at forward len k }
+    ensures within { result < len }
+{
+    if forward { k } else { len - 1 - k }
+}
+
+// The pen after a sign.
+fn move_pen(pen: Pen, position: Position) -> Pen
+    requires { (Near 256 pen) × (Light position) }
+    ensures { result ≡ move_pen pen position }
+{
+    Pen {
+        x: pen.x + position.x_advance,
+        y: pen.y + position.y_advance,
+    }
+}
+
+// What is drawn of the sign at a place.
+fn item(pen: Pen, place: usize, row: SignRow, position: Position) -> Item
+    requires { (Near 256 pen) × (Light position) }
+    ensures { result ≡ item_at pen place row position }
+{
+    Item {
+        place,
+        glyph: row.code,
+        x: pen.x + position.x_offset,
+        y: pen.y + position.y_offset,
+    }
+}
+
+// Notes the pen before each sign, in drawing order.
+fn set_pens(forward: bool, positions: &[Position], pens: &mut [Pen])
+    requires few { length positions.now ≤ 256 }
+    requires room { length positions.now ≤ length pens.old }
+    requires light { AllLight positions.now }
+    ensures { Penned forward positions.now pens.new }
+{
+    let len = positions.len();
+    let mut pen = Pen { x: 0, y: 0 };
+    for k in 0..len {
+        pens[k] = pen;
+        pen = move_pen(pen, positions[place_at(forward, len, k)]);
+    }
+}
+
+// Draws each sign at its pen.
+fn draw_items(
+    forward: bool,
+    rows: &[SignRow],
+    positions: &[Position],
+    items: &mut [Item],
+    pens: &[Pen],
+)
+    requires few { length positions.now ≤ 256 }
+    requires long { length positions.now ≡ length rows.now }
+    requires room { (length rows.now ≤ length items.old) × (length rows.now ≤ length pens.now) }
+    requires light { AllLight positions.now }
+    requires pens { Penned forward positions.now pens.now }
+    ensures { items.new ≡ drawn_in forward (side rows.now positions.now) ++ drop (length rows.now) items.old }
+{
+    let len = positions.len();
+    for k in 0..len {
+        let place = place_at(forward, len, k);
+        items[k] = item(pens[k], place, rows[place], positions[place]);
+    }
+}
+
+// Draws a line. The first items are the line's, in drawing order; the pens are room to work in.
+pub fn draw_line(
+    settings: Settings,
+    rows: &[SignRow],
+    positions: &[Position],
+    items: &mut [Item],
+    pens: &mut [Pen],
+) -> Result<(), Refusal>
+    ensures answer { result ≡ draw_answer rows.now positions.now (length items.old) (length pens.old) }
+    ensures items { items.new ≡ (if is_ok result then drawn_over settings rows.now positions.now items.old else items.old) }
+    ensures pens { PensAfter (is_ok result) pens.old pens.new }
+{
+    let len = rows.len();
+    if len > MOST_SIGNS || positions.len() != len {
+        return Err(Refusal::Length);
+    }
+    if items.len() < len || pens.len() < len {
+        return Err(Refusal::NoRoom);
+    }
+    if !all_bounded(rows, positions) {
+        return Err(Refusal::OutOfBounds);
+    }
+    let forward = settings.direction.is_forward();
+    set_pens(forward, positions, pens);
+    draw_items(forward, rows, positions, items, pens);
+    Ok(())
+}
