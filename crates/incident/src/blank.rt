@@ -4,9 +4,9 @@ ghost use Rattle.incident.specs.FromBlank.{book_of};
 ghost use Rattle.legends.specs.Promise.{from_blank};
 
 use crate::places::{NO_ITEM, NOWHERE, START};
+use drawings::{Item, draw_line, drawings_stand};
 use faces::Face;
 use legends::Refusal;
-use drawings::{Item, draw_line, drawings_stand};
 use placement::{Settings, lines_stand, route_line};
 use signs::SignRow;
 

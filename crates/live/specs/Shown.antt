@@ -7,7 +7,7 @@ use Rattle.drawings.specs.Drawing.{item}
 use Rattle.legends.specs.Book.{book_after}
 use Rattle.legends.specs.Promise.{from_blank}
 use Rattle.incident.specs.Story.{Told, then_closed}
-use Rattle.panel.specs.declared.shown.Shown.{Shown}
+use Rattle.live.specs.declared.shown.Shown.{Shown}
 
 -- Over any face: the story is told, and its end from blank is what was seen when the gate was closed.
 pub record ShownOver (f : FaceMeaning) (s : Shown) : Type 0 where

@@ -1,6 +1,6 @@
 // What the panel shows of the incident, and its end drawn from blank.
-use incident::Story;
 use drawings::Item;
+use incident::Story;
 
 pub mod telling;
 

@@ -8,9 +8,9 @@ ghost use Rattle.legends.specs.declared.Call.{Call};
 use crate::places::{NO_ITEM, NO_SIGN, NOWHERE, START};
 use crate::reports::{BAR_BENEATH, BAR_OVER, LETTER};
 use crate::story::Story;
+use drawings::Item;
 use faces::Face;
 use legends::{Legend, Refusal};
-use drawings::Item;
 use placement::{Direction, Position, Settings};
 use signs::SignRow;
 

@@ -1,6 +1,6 @@
 // The incident told over a face.
 ghost use Rattle.std.specs.Prelude.{◌≡◌, IsOkAnd, Some};
-ghost use Rattle.panel.specs.Shown.{ShownOver, on_the_panel};
+ghost use Rattle.live.specs.Shown.{ShownOver, on_the_panel};
 
 use crate::font::{CODES, EM, GLYPHS};
 use crate::shown::Shown;

@@ -15,11 +15,11 @@ returns g c =
     let f = g.F.Face.meaning c.args.face.now in
     let s = c.args.settings in
     let cells : List Cell = route f s c.args.signs in
-    let rows = c.route-line.new.rows in
-    let positions = c.route-line.new.positions in
-    let routed = c.in-ok-route-line.ensures in
+    let rows = c.route_line.new.rows in
+    let positions = c.route_line.new.positions in
+    let routed = c.in_ok-route_line.ensures in
     let two : length rows ≡ 2 = search rules in
-    c.in-ok-draw-line.ensures.items
+    c.in_ok-draw_line.ensures.items
     ∙ ap (λ (k : ℕ). drawn s (side rows positions) ++ drop k unwritten) two
     ∙ append-nil (drawn s (side rows positions))
     ∙ ap (λ (x : List SignRow). drawn s (side x positions)) routed.rows

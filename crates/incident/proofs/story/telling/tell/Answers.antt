@@ -7,11 +7,11 @@ pub returns : goal.returns
 returns g c =
     let f = g.F.Face.meaning c.args.face.now in
     let keeps = g.F.Face.keeps c.args.face.now in
-    let blank = c.in-ok-legend.ensures.made in
-    let letter = c.in-ok-put.ensures.lists ∙ ap (after_put f 0 letter_sign) blank in
-    let locked = c.in-ok-put-2.ensures.lists ∙ ap (after_put f 1 bar_over) letter in
-    let closed = c.in-ok-put-3.ensures.lists ∙ ap (after_put f 1 bar_beneath) locked in
-    let turned = c.in-ok-turn.ensures.lists ∙ ap (after_turn f leftward) closed in
+    let blank = c.in_ok-legend.ensures.made in
+    let letter = c.in_ok-put.ensures.lists ∙ ap (after_put f 0 letter_sign) blank in
+    let locked = c.in_ok-put-2.ensures.lists ∙ ap (after_put f 1 bar_over) letter in
+    let closed = c.in_ok-put-3.ensures.lists ∙ ap (after_put f 1 bar_beneath) locked in
+    let turned = c.in_ok-turn.ensures.lists ∙ ap (after_turn f leftward) closed in
     record {
       blank = c.seen-blank.ensures f keeps [] blank;
       letter = c.seen-letter.ensures f keeps put_letter letter;

@@ -6,10 +6,10 @@ use Rattle.legends.specs.Book.{book_after}
 use Rattle.legends.specs.Promise.{from_blank}
 use Rattle.incident.specs.Story.{Seen, Told, put_letter, then_locked, then_closed, then_turned}
 use Rattle.incident.specs.declared.Story.{Story}
-use Rattle.panel.specs.declared.shown.Shown.{Shown}
-use Rattle.panel.specs.Shown.{spaces, letter_alone, locked, closed, turned}
-use Rattle.panel.proofs.Exact.{exactly}
-use Rattle.panel.proofs.shown.telling.on_the_panel.Goals as goal
+use Rattle.live.specs.declared.shown.Shown.{Shown}
+use Rattle.live.specs.Shown.{spaces, letter_alone, locked, closed, turned}
+use Rattle.live.proofs.Exact.{exactly}
+use Rattle.live.proofs.shown.telling.on_the_panel.Goals as goal
 
 -- a book over the face that is made
 abbrev drawn_by : List Call → Result FaceMeaning ℕ → List Item

@@ -1,11 +1,11 @@
 use Rattle.std.proofs.Common.{◌≡◌, sym, ◌∙◌}
 use Rattle.incident.specs.Story.{then_closed}
-use Rattle.panel.proofs.Exact.{exactly}
-use Rattle.panel.proofs.shown.telling.over.Goals as goal
+use Rattle.live.proofs.Exact.{exactly}
+use Rattle.live.proofs.shown.telling.over.Goals as goal
 
 pub returns : goal.returns
 returns g c =
     let f = g.F.Face.meaning c.args.face.now in
-    let told = c.in-ok-story.ensures in
-    let blank = c.in-ok-from-blank.ensures in
+    let told = c.in_ok-story.ensures in
+    let blank = c.in_ok-from_blank.ensures in
     record { told = told; from_blank_is = blank; same = blank ∙ sym (exactly f then_closed _ told.closed) }
