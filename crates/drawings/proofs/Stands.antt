@@ -1,5 +1,5 @@
 -- The laws of drawing, by those of looks.
-use Rattle.std.proofs.Common.{◌≡◌, List, [], ◌∷◌, length, pos, ◌+ℤ◌, ◌≤ℤ◌, sym, refl, ap, ◌∙◌, subst, arith}
+use Rattle.std.proofs.Common.{List, [], ◌∷◌, pos, ◌+ℤ◌, ◌≤ℤ◌, sym, refl, ap, ◌∙◌, subst, arith}
 use Rattle.std.proofs.lemmas.List.{length-map}
 use Rattle.std.proofs.lemmas.Int.{ints}
 use Rattle.signs.specs.declared.SignRow.{SignRow}
@@ -8,12 +8,11 @@ use Rattle.placement.specs.declared.Settings.{Settings}
 use Rattle.placement.specs.declared.classes.Way.{Way}
 use Rattle.looks.specs.Groups.{Marked}
 use Rattle.looks.specs.Steps.{gaps, heights}
-use Rattle.looks.specs.Shown.{apart}
 use Rattle.looks.specs.Laws.{LooksStand}
 use Rattle.looks.specs.Promise as looks_promise
 use Rattle.drawings.specs.declared.item.Item.{Item}
 use Rattle.drawings.specs.Drawing.{seen, seen_all, look}
-use Rattle.drawings.specs.Promise.{Promise, Fits, DrawingsKeep}
+use Rattle.drawings.specs.Promise.{Fits, DrawingsKeep}
 use Rattle.drawings.specs.Laws.{SideBySide, TurnByTurn, DrawingsStand}
 use Rattle.drawings.proofs.Seen.{seen_look}
 use Rattle.drawings.proofs.Turns.{drawing_length, turn_drawn}

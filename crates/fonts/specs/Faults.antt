@@ -1,5 +1,5 @@
 -- Faults of a font file: the number of each, and how one rises from a byte through its table to the file.
-use Rattle.std.specs.Prelude.{ℕ, ◌+◌, List, Ok, Err, Result}
+use Rattle.std.specs.Prelude.{ℕ, List, Ok, Err, Result}
 use Rattle.fonts.specs.declared.faults.Fault.{Fault}
 use Rattle.fonts.specs.declared.faults.Fault.TheVariants.{EmOutsideLimits, PastEnd, Unknown, Missing, BadRange, AscenderBelow}
 use Rattle.fonts.specs.declared.faults.ByteFault.{ByteFault}

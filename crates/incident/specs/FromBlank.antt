@@ -1,5 +1,5 @@
 -- Two signs drawn from blank.
-use Rattle.std.specs.Prelude.{List, [], ◌∷◌}
+use Rattle.std.specs.Prelude.{List}
 use Rattle.signs.specs.declared.SignRow.{SignRow}
 use Rattle.placement.specs.declared.Settings.{Settings}
 use Rattle.legends.specs.Book.{Book}

@@ -1,22 +1,19 @@
 -- What holds after any list of calls, by the laws of lines and of looks.
-use Rattle.std.proofs.Common.{◌≡◌, ℕ, ◌≤◌, true, leb, List, length, take, sym, refl, ap, ◌∙◌, subst, arith}
+use Rattle.std.proofs.Common.{◌≡◌, ℕ, leb, List, length, take, sym, ap, ◌∙◌, subst, arith}
 use Rattle.std.proofs.lemmas.List.{length-map}
 use Rattle.std.proofs.lemmas.Bool.Decides.{nat_tests}
-use Rattle.faces.specs.Meaning.{FaceMeaning, Keeps}
 use Rattle.placement.specs.ByGroups.{LinesStand}
 use Rattle.placement.specs.Bounded.{bounded}
 use Rattle.placement.specs.Lines.{Cell, rows_of, positions_of}
 use Rattle.placement.specs.Route.{route}
-use Rattle.drawings.specs.declared.Item.{Item}
 use Rattle.drawings.specs.Laws.{DrawingsStand}
 use Rattle.drawings.specs.Promise.{Promise}
-use Rattle.legends.specs.declared.call.Call.{Call}
 use Rattle.legends.specs.Book.{Book, book_after}
 use Rattle.legends.specs.Fits.{fit}
-use Rattle.legends.specs.Leaves.{State, left_by}
+use Rattle.legends.specs.Leaves.{State}
 use Rattle.legends.specs.Answers.{fits}
-use Rattle.legends.specs.Promise.{Look, from_blank}
-use Rattle.legends.specs.Laws.{HistoriesStand, KeptInStep, Fitting, Drawable, LooksPromise}
+use Rattle.legends.specs.Promise.{from_blank}
+use Rattle.legends.specs.Laws.{HistoriesStand, Fitting, Drawable, LooksPromise}
 use Rattle.legends.proofs.Books.{book_long, same_book}
 use Rattle.legends.proofs.Steps.{in_step_lem}
 

@@ -1,5 +1,5 @@
 -- Calls that are alike have the same book.
-use Rattle.std.proofs.Common.{◌≡◌, ℕ, ◌<◌, Bool, true, false, cond, eqb, ltb, leb, ◌≢◌, List, [], ◌∷◌, length, get_or, set, replicate, Some, None, Option, unwrap_or, sym, refl, ap, ◌∙◌, arith, ltb-true, eqb-true}
+use Rattle.std.proofs.Common.{◌≡◌, ℕ, ◌<◌, Bool, true, false, cond, eqb, ◌≢◌, List, [], ◌∷◌, length, get_or, set, replicate, Some, None, Option, unwrap_or, sym, refl, ap, ◌∙◌, arith, eqb-true}
 use borrow.Author.Tests.{eqb-false}
 use Rattle.std.proofs.lemmas.List.{length-set, get_or-set_same, get_or-set_other, ext_get_or, length-replicate}
 use Rattle.signs.specs.declared.SignRow.{SignRow}
@@ -7,7 +7,7 @@ use Rattle.placement.specs.declared.Settings.{Settings}
 use Rattle.legends.specs.declared.call.Call.{Call}
 use Rattle.legends.specs.declared.call.Call.TheVariants.{Put, Turn, Draw}
 use Rattle.legends.specs.Book.{Book, blank_sign, blank_book, is_accepted, written, writes, writes_all, book_after}
-use Rattle.legends.specs.Last.{put_at, turn_to, later, last, last_put, last_turn, Alike}
+use Rattle.legends.specs.Last.{put_at, turn_to, later, last, Alike}
 
 or_later : {X : Type 0} (a b : Option X) (y : X) → unwrap_or (later a b) y ≡ unwrap_or b (unwrap_or a y)
 or_later a (Some x) y = refl

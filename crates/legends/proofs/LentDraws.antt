@@ -15,9 +15,8 @@ use Rattle.legends.specs.declared.refusal.Refusal.{Refusal}
 use Rattle.legends.specs.declared.refusal.Refusal.TheVariants.{Length, NoRoom, OutOfBounds}
 use Rattle.legends.specs.Fits.{Fit}
 use Rattle.legends.specs.Lending.{reaching}
-use Rattle.legends.specs.Leaves.{State}
 use Rattle.legends.specs.Answers.{fits, draw_answer, answer_to}
-use Rattle.legends.proofs.Lending.{whole, cut_to, cut_all, all_fit, unfit, accepted_is}
+use Rattle.legends.proofs.Lending.{cut_to, cut_all, all_fit, unfit, accepted_is}
 
 reach_within : (len room : ℕ) → reaching len room ≤ len
 reach_within len room = cond_both (leb len room) len room (λ k. k ≤ len) (λ e. omega arith) (λ e. omega (arith, leb-false len room e))

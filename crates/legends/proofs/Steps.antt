@@ -1,5 +1,5 @@
 -- Every call keeps the lists in step with the book.
-use Rattle.std.proofs.Common.{◌≡◌, ℕ, ◌<◌, ◌≤◌, Bool, true, false, cond, ltb, leb, List, [], ◌∷◌, ◌++◌, length, set, sym, refl, ap, ◌∙◌, arith, ltb-true}
+use Rattle.std.proofs.Common.{◌≡◌, ℕ, ◌<◌, Bool, true, false, cond, ltb, leb, List, [], ◌∷◌, ◌++◌, length, set, sym, refl, ap, ◌∙◌, arith, ltb-true}
 use mathlib.Core.List.{map-append}
 use Rattle.std.proofs.lemmas.List.{length-map}
 use Rattle.std.proofs.lemmas.Bool.{and_parts}
@@ -15,7 +15,7 @@ use Rattle.legends.specs.declared.call.Call.{Call}
 use Rattle.legends.specs.declared.call.Call.TheVariants.{Put, Turn, Draw}
 use Rattle.legends.specs.Book.{Book, blank_book, is_accepted, written, writes, writes_all, book_after}
 use Rattle.legends.specs.Span.{end_before, end_after}
-use Rattle.legends.specs.Leaves.{State, state, routed, around, respanned, after_put, after_make, changed, leaves, leaves_all, left_by}
+use Rattle.legends.specs.Leaves.{State, state, routed, around, respanned, after_put, changed, leaves_all, left_by}
 use Rattle.legends.proofs.Spans.{before_le, after_le, before_begins, after_begins}
 use Rattle.legends.proofs.Relay.{relay}
 use Rattle.legends.proofs.Books.{book_long, writes_long}

@@ -1,5 +1,5 @@
 -- What each call answers: the smallest number first of what speaks against it.
-use Rattle.std.specs.Prelude.{◌≡◌, ℕ, Bool, cond, List, length, Ok, Err, Result, nat_le, nat_lt}
+use Rattle.std.specs.Prelude.{ℕ, Bool, cond, List, length, Ok, Err, Result, nat_le, nat_lt}
 use Rattle.drawings.specs.DrawAnswers.{has_room}
 use Rattle.legends.specs.declared.legend.Legend.{Legend}
 use Rattle.legends.specs.declared.call.Call.{Call}

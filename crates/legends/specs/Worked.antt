@@ -1,5 +1,5 @@
 -- Worked books and spans: a letter, a bar over it, another beneath it, and a second letter.
-use Rattle.std.specs.Prelude.{◌≡◌, ℕ, true, false, List, [], ◌∷◌, Some, None, Ok, Err}
+use Rattle.std.specs.Prelude.{◌≡◌, ℕ, true, List, [], ◌∷◌, Some, None, Ok, Err}
 use Rattle.signs.specs.declared.SignRow.{SignRow}
 use Rattle.placement.specs.declared.Settings.{Settings}
 use Rattle.placement.specs.declared.Direction.TheVariants.{BottomToTop}

@@ -1,7 +1,7 @@
 use Rattle.std.proofs.Common.{◌≡◌, ℕ, List, [], ◌∷◌, ◌++◌, length, drop, pos, ap, ◌∙◌, append-nil, rules}
 use Rattle.signs.specs.declared.SignRow.{SignRow}
 use Rattle.placement.specs.declared.Position.{Position}
-use Rattle.placement.specs.Lines.{Cell, rows_of, positions_of}
+use Rattle.placement.specs.Lines.{Cell, rows_of}
 use Rattle.placement.specs.Route.{route}
 use Rattle.drawings.specs.declared.Item.{Item}
 use Rattle.drawings.specs.Drawing.{item, drawn, side}

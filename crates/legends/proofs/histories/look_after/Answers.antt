@@ -1,8 +1,7 @@
-use Rattle.std.proofs.Common.{◌≡◌, ℕ, ◌<◌, ◌≤◌, true, ◌++◌, length, get_or, take, drop, Ok, sym, refl, ap, ◌∙◌, arith, rules}
+use Rattle.std.proofs.Common.{◌≡◌, ℕ, ◌<◌, ◌++◌, length, get_or, take, drop, Ok, sym, refl, ap, ◌∙◌, arith}
 use Rattle.placement.specs.Bounded.{bounded}
 use Rattle.drawings.specs.Drawing.{drawn, side}
 use Rattle.legends.specs.declared.call.Call.TheVariants.{Put}
-use Rattle.legends.specs.Book.{book_after}
 use Rattle.legends.specs.Span.{no_row}
 use Rattle.legends.specs.Fits.{Fit}
 use Rattle.legends.specs.Leaves.{State, state, left_by, lists_of}

@@ -1,4 +1,4 @@
-use Rattle.std.proofs.Common.{◌≡◌, ℕ, ◌-◌, length, ◌∙◌, arith}
+use Rattle.std.proofs.Common.{◌≡◌, ℕ, ◌-◌, length, arith}
 use Rattle.legends.specs.Lending.{reaching}
 use Rattle.legends.proofs.LentDraws.{draw_answer_lem, draw_items}
 use Rattle.legends.proofs.lent.draw_lent.Goals as goal

@@ -1,7 +1,7 @@
 use Rattle.std.proofs.Common.{◌≡◌, ℕ, ◌-◌, Bool, cond, ltb, is_ok, Ok, Err, ap, ◌∙◌, arith}
 use Rattle.legends.specs.declared.refusal.Refusal.TheVariants.{NoPlace}
 use Rattle.legends.specs.declared.call.Call.TheVariants.{Put}
-use Rattle.legends.specs.Leaves.{State, state, left_if, after_put}
+use Rattle.legends.specs.Leaves.{state, left_if, after_put}
 use Rattle.legends.specs.Lending.{reaching}
 use Rattle.legends.proofs.Lending.{lent_answer, lent_leaves, accepted_is}
 use Rattle.legends.proofs.lent.put_lent.Goals as goal

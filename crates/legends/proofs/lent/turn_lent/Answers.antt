@@ -1,8 +1,8 @@
-use Rattle.std.proofs.Common.{◌≡◌, ℕ, ◌-◌, Bool, cond, List, ◌++◌, take, drop, is_ok, Ok, sym, ap, ◌∙◌, arith}
+use Rattle.std.proofs.Common.{◌≡◌, ℕ, ◌-◌, Bool, List, ◌++◌, take, drop, is_ok, Ok, sym, ap, ◌∙◌, arith}
 use Rattle.std.proofs.lemmas.List.{take-append-drop}
 use Rattle.signs.specs.declared.SignRow.{SignRow}
 use Rattle.legends.specs.declared.call.Call.TheVariants.{Turn}
-use Rattle.legends.specs.Leaves.{State, state, left_if, after_turn}
+use Rattle.legends.specs.Leaves.{state, left_if, after_turn}
 use Rattle.legends.specs.Lending.{reaching}
 use Rattle.legends.proofs.Lending.{lent_answer, lent_leaves, accepted_is}
 use Rattle.legends.proofs.lent.turn_lent.Goals as goal

@@ -1,4 +1,4 @@
-use Rattle.std.proofs.Common.{is_ok, ap, ◌∙◌}
+use Rattle.std.proofs.Common.{is_ok, ap}
 use Rattle.incident.proofs.story.telling.seen.Goals as goal
 
 pub returns : goal.returns

@@ -1,4 +1,4 @@
-use Rattle.std.proofs.Common.{◌≡◌, [], ap, ◌∙◌}
+use Rattle.std.proofs.Common.{[], ap, ◌∙◌}
 use Rattle.legends.specs.Leaves.{after_put, after_turn}
 use Rattle.incident.specs.Story.{letter_sign, bar_over, bar_beneath, leftward, put_letter, then_locked, then_closed, then_turned}
 use Rattle.incident.proofs.story.telling.tell.Goals as goal

@@ -1,4 +1,4 @@
-use Rattle.std.proofs.Common.{◌≡◌, ◌≤◌, length, set, sym, refl, ap, ◌∙◌, arith, length-set, rules}
+use Rattle.std.proofs.Common.{◌≡◌, ◌≤◌, length, set, refl, ap, ◌∙◌, arith, length-set, rules}
 use Rattle.placement.specs.Lines.{rows_of, positions_of}
 use Rattle.placement.specs.Route.{route}
 use Rattle.legends.specs.Span.{span_of}

@@ -4,8 +4,7 @@ use Rattle.drawings.specs.declared.Item.{Item}
 use Rattle.legends.specs.declared.Call.{Call}
 use Rattle.legends.specs.Book.{book_after}
 use Rattle.legends.specs.Promise.{from_blank}
-use Rattle.incident.specs.Story.{Seen, Told, put_letter, then_locked, then_closed, then_turned}
-use Rattle.incident.specs.declared.Story.{Story}
+use Rattle.incident.specs.Story.{put_letter, then_locked, then_closed, then_turned}
 use Rattle.live.specs.declared.shown.Shown.{Shown}
 use Rattle.live.specs.Shown.{spaces, letter_alone, locked, closed, turned}
 use Rattle.live.proofs.Exact.{exactly}

@@ -1,4 +1,4 @@
-use Rattle.std.proofs.Common.{◌≡◌, sym, ◌∙◌}
+use Rattle.std.proofs.Common.{sym, ◌∙◌}
 use Rattle.incident.specs.Story.{then_closed}
 use Rattle.live.proofs.Exact.{exactly}
 use Rattle.live.proofs.shown.telling.over.Goals as goal
