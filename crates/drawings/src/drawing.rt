@@ -8,7 +8,7 @@ ghost use Rattle.placement.specs.Room.{AllLight, Light};
 use crate::item::Item;
 use crate::pen::Pen;
 use crate::refusal::Refusal;
-use placement::{MOST_SIGNS, Position, Settings, all_bounded};
+use placement::{MOST_SIGNS, Position, Settings, all_bounded, bounds_stand};
 use signs::SignRow;
 
 // The place that is drawn after k others.
@@ -103,6 +103,7 @@ pub fn draw_line(
     if !all_bounded(rows, positions) {
         return Err(Refusal::OutOfBounds);
     }
+    let _ = bounds_stand();
     let forward = settings.direction.is_forward();
     set_pens(forward, positions, pens);
     draw_items(forward, rows, positions, items, pens);

@@ -7,7 +7,7 @@ use crate::places::{NO_ITEM, NOWHERE, START};
 use drawings::{Item, draw_line, drawings_stand};
 use faces::Face;
 use legends::Refusal;
-use placement::{Settings, lines_stand, route_line};
+use placement::{Settings, bounds_stand, lines_stand, route_line};
 use signs::SignRow;
 
 // It is never refused.
@@ -19,6 +19,7 @@ pub fn from_blank<F: Face>(
     ensures { IsOkAnd result (λ items. items ≡ from_blank (F.meaning face.now) (book_of settings signs)) }
 {
     let _ = lines_stand();
+    let _ = bounds_stand();
     let _ = drawings_stand();
     let mut rows = signs;
     let mut positions = [NOWHERE; 2];

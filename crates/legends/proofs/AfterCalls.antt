@@ -3,6 +3,7 @@ use Rattle.std.proofs.Common.{◌≡◌, ℕ, leb, List, length, take, sym, ap, 
 use Rattle.std.proofs.lemmas.List.{length-map}
 use Rattle.std.proofs.lemmas.Bool.Decides.{nat_tests}
 use Rattle.placement.specs.ByGroups.{LinesStand}
+use Rattle.placement.specs.Bounds.{BoundsStand}
 use Rattle.placement.specs.Bounded.{bounded}
 use Rattle.placement.specs.Lines.{Cell, rows_of, positions_of}
 use Rattle.placement.specs.Route.{route}
@@ -20,7 +21,7 @@ use Rattle.legends.proofs.Steps.{in_step_lem}
 same_length : (n a b c : ℕ) → a ≡ n → b ≡ n → c ≡ n → fit n a b c ≡ leb n 256
 same_length n a b c p q r = grind (arith, nat_tests)
 
-module _ (lines : LinesStand) (looks : DrawingsStand) where
+module _ (lines : LinesStand) (bounds : BoundsStand) (looks : DrawingsStand) where
   fitting : Fitting
   fitting f n calls =
       let b : Book = book_after n calls in
@@ -33,7 +34,7 @@ module _ (lines : LinesStand) (looks : DrawingsStand) where
   drawable f keeps n calls few =
       let b : Book = book_after n calls in
       ap (λ (st : State). bounded st.mapped st.positions) (in_step_lem lines f n calls)
-      ∙ lines.within_bounds f keeps b.settings b.signs (omega (arith, book_long n calls))
+      ∙ bounds.within_bounds f keeps b.settings b.signs (omega (arith, book_long n calls))
 
   promise : LooksPromise
   promise f keeps n calls items exact =

@@ -3,13 +3,14 @@ ghost use Rattle.legends.specs.Laws.{HistoriesStand};
 ghost use Rattle.legends.specs.Worked.{WorkedLegends};
 
 use drawings::drawings_stand;
-use placement::lines_stand;
+use placement::{bounds_stand, lines_stand};
 
 // What holds after any list of calls: the lists follow the book, and a look shows the book and keeps its promise.
 pub fn histories_stand() -> bool
     ensures { HistoriesStand }
 {
     let _ = lines_stand();
+    let _ = bounds_stand();
     drawings_stand()
 }
 

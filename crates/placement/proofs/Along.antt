@@ -8,11 +8,12 @@ use Rattle.placement.specs.declared.position.Position.{Position}
 use Rattle.placement.specs.declared.settings.Settings.{Settings}
 use Rattle.placement.specs.declared.walk.Walk.{Walk}
 use Rattle.placement.specs.Directions.{is_forward}
-use Rattle.placement.specs.Room.{Spans, Light, NearFrom}
+use Rattle.placement.specs.Room.{Spans, Light}
 use Rattle.placement.specs.Lines.{Cell, cell, cells, positions_of}
 use Rattle.placement.specs.OneMark.{gap_of}
 use Rattle.placement.specs.Components.{component}
 use Rattle.placement.specs.Walks.{Base, Known, ink, passed, to_component, to_run, entered, settled_walk, next, out, walked}
+use Rattle.placement.proofs.NearFrom.{NearFrom}
 use Rattle.placement.proofs.Nears.{Boxed, near_passed, near_entered, near_settled}
 use Rattle.placement.proofs.Scans.{run, going, scan_is, scan_more, scan_all}
 

@@ -15,7 +15,7 @@ use Rattle.placement.specs.Mapped.{map_row}
 use Rattle.placement.specs.Walks.{Base, ground, next, out, walked}
 use Rattle.placement.specs.Placements.{Standing, Leading, Bare, Along, zeroed, opened, out_by, next_by, flow, placed_line, around}
 use Rattle.placement.specs.Route.{cell_of}
-use Rattle.placement.specs.ByGroups.{IsMark, Opens, OneGroup, LeadingMarks, CutLines, Begins, Seam, AsLong, InOrder, WithinBounds, LinesStand}
+use Rattle.placement.specs.ByGroups.{IsMark, Opens, OneGroup, LeadingMarks, CutLines, Begins, Seam, AsLong, InOrder, LinesStand}
 
 module _ (f : FaceMeaning) (s : Settings) where
   -- where a line stands after some cells
@@ -103,5 +103,5 @@ as_long f s rows = flow_length f s Leading (map (cell_of f s) rows) ∙ length-m
 pub in_order : InOrder
 in_order f s rows = flow_rows f s Leading (map (cell_of f s) rows) ∙ cells_rows f s rows
 
-pub lines_stand : ReclassingStands → WithinBounds → LinesStand
-lines_stand classing within = record { as_long = as_long; in_order = in_order; seam = seam classing; one_group = one_group; leading_marks = leading_marks; cut_lines = cut_lines; within_bounds = within }
+pub lines_stand : ReclassingStands → LinesStand
+lines_stand classing = record { as_long = as_long; in_order = in_order; seam = seam classing; one_group = one_group; leading_marks = leading_marks; cut_lines = cut_lines }

@@ -12,6 +12,7 @@ pub mod ByGroups
 pub mod Shares
 pub mod Fields
 pub mod Belonging
+pub mod NearFrom
 pub mod Nears
 pub mod Stepping
 pub mod LeftOver

@@ -16,7 +16,8 @@ use Rattle.placement.specs.declared.settings.Settings.{Settings}
 use Rattle.placement.specs.declared.walk.Walk.{Walk}
 use Rattle.placement.specs.Classes.{way, align, is_attached}
 use Rattle.placement.specs.Text.{is_text_ltr}
-use Rattle.placement.specs.Room.{Within, Room, Spans, Light, NearFrom, Near}
+use Rattle.placement.specs.Room.{Within, Room, Spans, Light, Near}
+use Rattle.placement.proofs.NearFrom.{NearFrom}
 use Rattle.placement.specs.Placing.{left_edge, width_of, x_of, y_of, reached, gap_before, placed}
 use Rattle.placement.specs.OneMark.{gap_of}
 use Rattle.placement.specs.Components.{component, share}

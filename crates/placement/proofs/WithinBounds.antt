@@ -14,17 +14,18 @@ use Rattle.placement.specs.declared.position.Position.{Position}
 use Rattle.placement.specs.declared.settings.Settings.{Settings}
 use Rattle.placement.specs.declared.walk.Walk.{Walk}
 use Rattle.placement.specs.Directions.{is_forward}
-use Rattle.placement.specs.Room.{Within, Spans, Light, NearFrom, AllLight, AllGlyphs}
+use Rattle.placement.specs.Room.{Within, Spans, Light, AllLight, AllGlyphs}
 use Rattle.placement.specs.Lines.{Cell, positions_of, at}
 use Rattle.placement.specs.Mapped.{map_row}
 use Rattle.placement.specs.OneMark.{gap_of}
 use Rattle.placement.specs.Walks.{Base, base_at, entered, settled, out}
 use Rattle.placement.specs.Placements.{Standing, Leading, Bare, Along, less, zeroed, opened, out_by, next_by, flow}
 use Rattle.placement.specs.Route.{cell_of}
-use Rattle.placement.specs.ByGroups.{WithinBounds}
+use Rattle.placement.specs.Bounds.{WithinBounds, BoundsStand}
+use Rattle.placement.proofs.NearFrom.{NearFrom}
 use Rattle.placement.proofs.Nears.{Boxed, spans_room, near_wider, near_start, near_entered, placed_x, placed_height}
 use Rattle.placement.proofs.Along.{boxed_by, gap_few, near_next}
-use Rattle.placement.proofs.BoundedLists.{bounded_from}
+use Rattle.placement.proofs.BoundedLists.{bounded_from, bounded_light}
 use Rattle.placement.proofs.Routing.{Unmoved, unmoved_light, spaced_unmoved, routed_glyphs}
 use Rattle.placement.proofs.ByGroups.{in_order}
 
@@ -113,8 +114,11 @@ module _ (f : FaceMeaning) (keeps : Keeps f) (s : Settings) where
   cells_unmoved [] = tt
   cells_unmoved (r ∷ rows) = (spaced_unmoved f s keeps (reclassed r) (map_row f (reclassed r)), cells_unmoved rows)
 
-pub within_bounds : WithinBounds
+within_bounds : WithinBounds
 within_bounds f keeps s rows few =
     let long = length-map rows (cell_of f s) in
     let glyphs = subst AllGlyphs (map-map (map_row f) reclassed rows ∙ sym (in_order f s rows)) (routed_glyphs f s keeps rows) in
     bounded_from _ _ glyphs (flow_light f keeps s 0 Leading (map (cell_of f s) rows) (omega arith) tt (cells_unmoved f keeps s rows))
+
+pub bounds_stand : BoundsStand
+bounds_stand = record { within_bounds = within_bounds; light = λ rows positions inside. bounded_light rows positions inside }

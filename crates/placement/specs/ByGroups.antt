@@ -1,13 +1,12 @@
 -- A line by its groups: a base and the marks after it are placed by themselves, so a line may be cut before any base.
-use Rattle.std.specs.Prelude.{◌≡◌, ◌≤◌, true, false, List, [], ◌∷◌, ◌++◌, map, length}
+use Rattle.std.specs.Prelude.{◌≡◌, true, false, List, [], ◌∷◌, ◌++◌, map, length}
 use Rattle.std.specs.List.{AllByRecursion}
 use Rattle.signs.specs.declared.SignRow.{SignRow}
 use Rattle.signs.specs.Rows.{is_mark, read_row}
 use Rattle.signs.specs.Reclassing.{reclassed}
-use Rattle.faces.specs.Meaning.{FaceMeaning, Keeps}
+use Rattle.faces.specs.Meaning.{FaceMeaning}
 use Rattle.placement.specs.declared.settings.Settings.{Settings}
-use Rattle.placement.specs.Lines.{Cell, rows_of, positions_of}
-use Rattle.placement.specs.Bounded.{bounded}
+use Rattle.placement.specs.Lines.{Cell, rows_of}
 use Rattle.placement.specs.Mapped.{map_row}
 use Rattle.placement.specs.Placements.{placed_line, group}
 use Rattle.placement.specs.Route.{route}
@@ -49,10 +48,6 @@ AsLong = (f : FaceMeaning) (s : Settings) (rows : List SignRow) → length (rout
 abbrev pub InOrder : Type 0
 InOrder = (f : FaceMeaning) (s : Settings) (rows : List SignRow) → rows_of (route f s rows) ≡ map (λ (r : SignRow). map_row f (reclassed r)) rows
 
--- Over a face within its limits, what a route of up to 256 signs leaves is within the bounds of a line.
-abbrev pub WithinBounds : Type 0
-WithinBounds = (f : FaceMeaning) → Keeps f → (s : Settings) (rows : List SignRow) → length rows ≤ 256 → bounded (rows_of (route f s rows)) (positions_of (route f s rows)) ≡ true
-
 pub record LinesStand : Type 0 where
   pub as_long : AsLong
   pub in_order : InOrder
@@ -60,4 +55,3 @@ pub record LinesStand : Type 0 where
   pub one_group : OneGroup
   pub leading_marks : LeadingMarks
   pub cut_lines : CutLines
-  pub within_bounds : WithinBounds

@@ -19,3 +19,4 @@ pub mod Marks
 pub mod Bounded
 pub mod Steps
 pub mod ByGroups
+pub mod Bounds

@@ -35,16 +35,12 @@ pub record Light (p : Position) : Type 0 where
   pub x_offset : Within 40000000 p.x_offset
   pub y_offset : Within 40000000 p.y_offset
 
--- A walk after n marks, along a base that spans start units up and down.
-pub record NearFrom (start n : ℕ) (w : Walk) : Type 0 where
+-- A walk after n marks.
+pub record Near (n : ℕ) (w : Walk) : Type 0 where
   pub x : Within (65535 + 65535 * n) w.x
   pub y : Within (65535 + 65535 * n) w.y
-  pub around : Spans start w.around
-  pub run : Spans (start + 66560 * n) w.run
-
--- The same along a base of any offset that a line may hold.
-abbrev pub Near : ℕ → Walk → Type 0
-Near n w = NearFrom 40032768 n w
+  pub around : Spans 40032768 w.around
+  pub run : Spans (40032768 + 66560 * n) w.run
 
 -- Lists of what a line may hold.
 abbrev pub AllLight : List Position → Type 0

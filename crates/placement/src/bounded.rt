@@ -1,7 +1,6 @@
 // What a line may hold.
-ghost use Rattle.std.specs.Prelude.{◌≡◌, true};
+ghost use Rattle.std.specs.Prelude.{◌≡◌};
 ghost use Rattle.placement.specs.Bounded.{bounded, bounded_position, bounded_row, inside};
-ghost use Rattle.placement.specs.Room.{AllLight};
 ghost use Rattle.faces.specs.Keys.{every};
 
 use crate::position::Position;
@@ -70,8 +69,7 @@ fn positions_bounded(positions: &[Position]) -> bool
 
 // Whether lists hold only what a line may hold.
 pub fn all_bounded(rows: &[SignRow], positions: &[Position]) -> bool
-    ensures value { result ≡ bounded rows.now positions.now }
-    ensures light { result ≡ true → AllLight positions.now }
+    ensures { result ≡ bounded rows.now positions.now }
 {
     rows_bounded(rows) && positions_bounded(positions)
 }

@@ -25,7 +25,7 @@ mod walking;
 pub use bounded::all_bounded;
 pub use direction::Direction;
 pub use extents::{Extents, PlacedMark};
-pub use laws::{lines_stand, placing_stands};
+pub use laws::{bounds_stand, lines_stand, placing_stands};
 pub use line::steps::route_line;
 pub use line::{Classed, MOST_SIGNS, Mapped, Placed, Refused, Spaced, Written};
 pub use one_mark::position_one_mark;

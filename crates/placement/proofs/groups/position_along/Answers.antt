@@ -1,4 +1,4 @@
-use Rattle.std.proofs.Common.{◌≤◌, get_or, sym, refl, subst, arith}
+use Rattle.std.proofs.Common.{◌+◌, ◌≤◌, get_or, sym, refl, subst, arith}
 use Rattle.std.proofs.ByRecursion.{All-get_or}
 use Rattle.signs.specs.declared.SignRow.{SignRow}
 use Rattle.signs.specs.Rows.{read_row}
@@ -7,6 +7,7 @@ use Rattle.placement.specs.Lines.{cell}
 use Rattle.placement.specs.Room.{Light, Near}
 use Rattle.placement.specs.Walks.{Base, Known}
 use Rattle.placement.proofs.Blank.{blank, nowhere}
+use Rattle.placement.proofs.NearFrom.{from_near, to_near}
 use Rattle.placement.proofs.Nears.{near_wider}
 use Rattle.placement.proofs.LeftOver.{left_here, left_after}
 use Rattle.placement.proofs.Along.{near_next, known_next, gone_more, gone_all}
@@ -23,7 +24,7 @@ step-next-requires g c =
       glyph = All-get_or (λ (r : SignRow). r.code ≤ 65535) c.args.rows.now l.i _ c.loop-i-test.true c.requires.glyphs;
       base = c.requires.base;
       known = l.invariant.1.1.0;
-      near = near_wider l.i 256 l.walk (omega arith) l.invariant.1.0;
+      near = to_near 256 l.walk (near_wider l.i 256 l.walk (omega arith) (from_near l.i l.walk l.invariant.1.0));
       light = left_here Light l.positions l.i (omega arith) l.invariant.1.1.1 _;
     }
 
@@ -39,7 +40,7 @@ loop-i-preserved g c =
     let light = left_here Light l.positions l.i (omega arith) l.invariant.1.1.1 nowhere in (
       gone_more f keeps a.settings b c.requires.base l.walk _ a.rows.now l.positions _ l.i _ _ _ c.loop-i-test.true (omega arith) e.walk e.position l.invariant.0,
       (
-        subst (Near _) (sym e.walk) (near_next f keeps a.settings b c.requires.base l.i l.walk here l.invariant.1.0 light),
+        subst (Near _) (sym e.walk) (to_near (l.i + 1) _ (near_next f keeps a.settings b c.requires.base l.i l.walk here (from_near l.i l.walk l.invariant.1.0) light)),
         (
           subst (Known b) (sym e.walk) (known_next f keeps a.settings b c.requires.base l.walk here l.invariant.1.1.0),
           left_after Light l.positions l.i (omega arith) l.invariant.1.1.1 _,

@@ -9,6 +9,7 @@ use Rattle.placement.specs.Lines.{cell}
 use Rattle.placement.specs.Room.{Light, Near}
 use Rattle.placement.specs.Walks.{Base, base_at, walk_from}
 use Rattle.placement.proofs.Blank.{blank, nowhere}
+use Rattle.placement.proofs.NearFrom.{to_near}
 use Rattle.placement.proofs.Nears.{near_start}
 use Rattle.placement.proofs.OneGroup.{bare_group, boxed_group}
 use Rattle.placement.proofs.positioning.position_around_base.Goals as goal
@@ -52,7 +53,7 @@ position_along-requires g c =
       light = All-take Light _ _ (All-drop Light 1 _ c.requires.light);
       base = c.base_box-extents.ensures.spans;
       known = λ one. ap (λ (v : Walk). v.component) w;
-      near = subst (Near 0) (sym w) (near_start c.is_forward.result (get_or c.args.positions.now 0 nowhere) c.base_box-extents.result light c.base_box-extents.ensures.spans);
+      near = subst (Near 0) (sym w) (to_near 0 _ (near_start c.is_forward.result (get_or c.args.positions.now 0 nowhere) c.base_box-extents.result light c.base_box-extents.ensures.spans));
     }
 
 pub returns : goal.returns

@@ -3,6 +3,7 @@ use Rattle.signs.specs.Rows.{read_row, class}
 use Rattle.signs.specs.Signs.{row_of}
 use Rattle.placement.specs.Room.{Near}
 use Rattle.placement.specs.Walks.{Base, passed}
+use Rattle.placement.proofs.NearFrom.{from_near, to_near}
 use Rattle.placement.proofs.Nears.{near_entered}
 use Rattle.placement.proofs.Stepping.{zero_next, zero_out, entered_is, other_next, other_out}
 use Rattle.placement.proofs.walking.step.Goals as goal
@@ -15,7 +16,7 @@ settle-requires g c =
     let r = read_row a.row in
     let em = c.read-mark.ensures in
     let ev = entered_is f a.settings b a.walk r a.position em (c.class-class.ensures ∙ ap class em) c.to_component.ensures c.to_run-entered.ensures in
-    record { near = subst (Near 256) (sym ev) (near_entered a.settings b c.requires.base 256 r a.walk c.requires.near); light = c.requires.light }
+    record { near = subst (Near 256) (sym ev) (to_near 256 _ (near_entered a.settings b c.requires.base 256 r a.walk (from_near 256 a.walk c.requires.near))); light = c.requires.light }
 
 pub returns-then-class-eq0 : goal.returns-then-class-eq0
 returns-then-class-eq0 g c =

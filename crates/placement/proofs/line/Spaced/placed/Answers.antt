@@ -13,5 +13,5 @@ position_marks-requires g c =
     let most = leb-true len 256 fits.0 in
     let r = eqb-true (length rows) len lists.0 in
     let p = eqb-true (length positions) len lists.1 in
-    let inside = sym c.if-not-all_bounded.ensures.value in
+    let inside = sym c.if-not-all_bounded.ensures in
     record { long = omega (arith, r, p); few = omega (arith, r, most); glyphs = bounded_glyphs rows positions inside; light = bounded_light rows positions inside }
