@@ -14,7 +14,7 @@ use Rattle.drawings.specs.declared.item.Item.{Item}
 use Rattle.drawings.specs.Drawing.{seen, seen_all, look}
 use Rattle.drawings.specs.Promise.{Fits, DrawingsKeep}
 use Rattle.drawings.specs.Laws.{SideBySide, TurnByTurn, DrawingsStand}
-use Rattle.drawings.proofs.Seen.{seen_look}
+use Rattle.drawings.proofs.Seen.{seen_drawn, seen_look}
 use Rattle.drawings.proofs.Turns.{drawing_length, turn_drawn}
 
 module _ (stand : LooksStand) where
@@ -45,4 +45,4 @@ module _ (stand : LooksStand) where
   turn_by_turn forward rows ps long = record { as_many = drawing_length forward rows ps long; each = turn_drawn forward rows ps long }
 
   pub drawings_stand : DrawingsStand
-  drawings_stand = record { looks = stand; promise = drawings_keep; side_by_side = side_by_side; turn_by_turn = turn_by_turn }
+  drawings_stand = record { looks = stand; drawn_as_looks = seen_drawn; seen_as_looks = seen_look; promise = drawings_keep; side_by_side = side_by_side; turn_by_turn = turn_by_turn }

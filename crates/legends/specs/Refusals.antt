@@ -1,6 +1,6 @@
 -- The number of each refusal, and what a refusal of a line or of its drawing is to a legend.
 use Rattle.std.specs.Prelude.{ℕ}
-use Rattle.placement.specs.declared.Refusal.{Refusal as Line-as-Refusal}
+use Rattle.placement.specs.declared.Refusal.{Refusal as LineRefusal}
 use Rattle.placement.specs.declared.Refusal.TheVariants as line
 use Rattle.drawings.specs.declared.Refusal.{Refusal as DrawingRefusal}
 use Rattle.drawings.specs.declared.Refusal.TheVariants as drawing
@@ -13,7 +13,7 @@ number_of NoPlace = 14
 number_of NoRoom = 15
 number_of OutOfBounds = 16
 
-abbrev pub from_placement : Line-as-Refusal → Refusal
+abbrev pub from_placement : LineRefusal → Refusal
 from_placement line.Length = Length
 from_placement line.OutOfBounds = OutOfBounds
 
