@@ -1,5 +1,5 @@
 #!/usr/bin/env python3
-"""Writes the small fonts of crates/fontlist/data, one or more for each character table format.
+"""Writes small fonts into a folder, one or more for each character table format: make_fonts.py FOLDER
 
 Every byte is packed here, by the layouts of OpenType; nothing of the Rattle sources is used.
 """

@@ -1,7 +1,7 @@
 #!/usr/bin/env python3
-"""An independent reader: prints what a font file answers, in the lines of the program fontlist.
+"""An independent reader: prints what a font file answers: its em, its codes and glyphs, and each glyph's advances and box; or its fault.
 
-Written from OpenType and docs/RULES.md in plain Python; nothing of the Rattle sources is used. With --fonttools the
+Written from OpenType in plain Python; nothing of the Rattle sources is used. With --fonttools the
 character table, advances and boxes come from the library fontTools instead, for fonts that it accepts.
 """
 import struct

@@ -2,8 +2,7 @@
 use Rattle.std.proofs.Common.{◌≡◌, ℕ, suc, Bool, true, false, cond, List, [], ◌∷◌, reverse, length, ℤ, ◌+ℤ◌, refl, ap, ◌∙◌}
 use Rattle.std.proofs.lemmas.List.{length-reverse}
 use Rattle.placement.specs.Lines.{Cell}
-use Rattle.looks.specs.Drawing.{numbered}
-use Rattle.drawings.specs.Drawing.{penned}
+use Rattle.looks.specs.Drawing.{numbered, penned}
 
 pub penned_length : (x y : ℤ) (ns : List (ℕ × Cell)) → length (penned x y ns) ≡ length ns
 penned_length x y [] = refl

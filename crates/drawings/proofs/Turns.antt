@@ -1,13 +1,13 @@
 -- The items of a drawing, one by one in drawing order.
-use Rattle.std.proofs.Common.{◌≡◌, ℕ, zero, suc, ◌+◌, ◌-◌, ◌<◌, ◌≤◌, Bool, true, false, cond, List, [], ◌∷◌, ◌++◌, reverse, length, get_or, take, drop, set, sym, refl, ap, ◌∙◌, append_assoc, arith}
-use Rattle.std.proofs.lemmas.List.{take_more, drop_more, set_at, length-take-le, get_or-reverse}
+use Rattle.std.proofs.Common.{◌≡◌, ℕ, zero, suc, ◌+◌, ◌-◌, ◌<◌, ◌≤◌, Bool, true, false, cond, List, [], ◌∷◌, ◌++◌, map, reverse, length, pos, get_or, take, drop, set, sym, refl, ap, ◌∙◌, append_assoc, arith}
+use Rattle.std.proofs.lemmas.List.{take_more, drop_more, set_at, length-take-le, length-map, get_or-reverse}
 use Rattle.signs.specs.declared.SignRow.{SignRow}
 use Rattle.placement.specs.declared.Position.{Position}
 use Rattle.placement.specs.Lines.{Cell, cell}
 use Rattle.drawings.specs.declared.item.Item.{Item}
 use Rattle.drawings.specs.declared.pen.Pen.{Pen}
-use Rattle.looks.specs.Drawing.{numbered}
-use Rattle.drawings.specs.Drawing.{penned, drawn_in, side}
+use Rattle.looks.specs.Drawing.{numbered, penned}
+use Rattle.drawings.specs.Drawing.{lent_item, drawn_in, side}
 use Rattle.drawings.specs.Pens.{start, move_pen, item_at, item_in_turn, place_at, no_row, nowhere, pen_after}
 use Rattle.drawings.proofs.Lengths.{penned_length, numbered_length, order_length}
 
@@ -63,7 +63,7 @@ along_push pen (m ∷ ns) n = along_push (move_pen pen m.1.position) ns n
 abbrev item_on : Pen → ℕ × Cell → Item
 item_on pen n = item_at pen n.0 n.1.row n.1.position
 
-penned_at : (pen : Pen) (ns : List (ℕ × Cell)) (k : ℕ) (d : Item) → k < length ns → get_or (penned pen.x pen.y ns) k d ≡ item_on (along pen (take k ns)) (get_or ns k none)
+penned_at : (pen : Pen) (ns : List (ℕ × Cell)) (k : ℕ) (d : Item) → k < length ns → get_or (map lent_item (penned pen.x pen.y ns)) k d ≡ item_on (along pen (take k ns)) (get_or ns k none)
 penned_at pen [] k d h = absurd (omega arith)
 penned_at pen (n ∷ ns) zero d h = refl
 penned_at pen (n ∷ ns) (suc k) d h = penned_at (move_pen pen n.1.position) ns k d (omega arith)
@@ -89,7 +89,7 @@ module _ (forward : Bool) (rows : List SignRow) (ps : List Position) (long : len
   order_long = order_length forward cells ∙ side_length rows ps long
 
   pub drawing_length : length (drawn_in forward cells) ≡ length ps
-  drawing_length = penned_length _ _ (in_order forward cells) ∙ order_long
+  drawing_length = length-map (penned (pos 0) (pos 0) (in_order forward cells)) lent_item ∙ penned_length _ _ (in_order forward cells) ∙ order_long
 
   -- the place that is drawn after k others, and what stands there
   abbrev place : ℕ → ℕ

@@ -1,6 +1,5 @@
--- What is drawn of a line, as the items that a caller lends: for each sign an item, which says where on the panel its glyph
--- goes. The pen starts at 0, 0; it draws each sign at itself moved by the sign's offsets, and then goes on by its advances.
-use Rattle.std.specs.Prelude.{ℕ, Bool, cond, List, [], ◌∷◌, ◌++◌, map, reverse, length, drop, ℤ, pos, ◌+ℤ◌}
+-- What is drawn of a line, as rows that a caller lends: the items of looks, one by one.
+use Rattle.std.specs.Prelude.{ℕ, Bool, cond, List, [], ◌∷◌, ◌++◌, map, reverse, length, drop, ℤ, pos}
 use Rattle.signs.specs.declared.SignRow.{SignRow}
 use Rattle.faces.specs.Meaning.{FaceMeaning}
 use Rattle.placement.specs.declared.Position.{Position}
@@ -8,29 +7,26 @@ use Rattle.placement.specs.declared.Settings.{Settings}
 use Rattle.placement.specs.Directions.{is_forward}
 use Rattle.placement.specs.Lines.{Cell, cell}
 use Rattle.placement.specs.Route.{route}
-use Rattle.looks.specs.Drawing.{Item as LookItem, item as look_item, numbered}
+use Rattle.looks.specs.Drawing.{Item as LookItem, item as look_item, numbered, penned}
 use Rattle.drawings.specs.declared.item.Item.{Item}
 
 -- The glyph of a place, at a point.
 abbrev pub item : ℕ → ℕ → ℤ → ℤ → Item
 item p g x y = record { place = p; glyph = g; x = x; y = y }
 
--- An item as the laws of looks speak of it.
+-- An item as the laws of looks speak of it, and one of theirs as a caller lends it.
 abbrev pub seen : Item → LookItem
 seen i = look_item i.place i.glyph i.x i.y
 
 abbrev pub seen_all : List Item → List LookItem
 seen_all items = map seen items
 
-abbrev pub penned : ℤ → ℤ → List (ℕ × Cell) → List Item
-penned x y [] = []
-penned x y (n ∷ ns) =
-    item n.0 n.1.row.code (x +ℤ n.1.position.x_offset) (y +ℤ n.1.position.y_offset)
-    ∷ penned (x +ℤ n.1.position.x_advance) (y +ℤ n.1.position.y_advance) ns
+abbrev pub lent_item : LookItem → Item
+lent_item i = item i.place i.glyph i.x i.y
 
 -- From the first place up in forward directions, from the last one down otherwise.
 abbrev pub drawn_in : Bool → List Cell → List Item
-drawn_in forward cs = penned (pos 0) (pos 0) (cond forward (numbered 0 cs) (reverse (numbered 0 cs)))
+drawn_in forward cs = map lent_item (penned (pos 0) (pos 0) (cond forward (numbered 0 cs) (reverse (numbered 0 cs))))
 
 abbrev pub drawn : Settings → List Cell → List Item
 drawn s cs = drawn_in (is_forward s.direction) cs

@@ -1,4 +1,4 @@
--- What holds after any list of calls, by the laws of lines and of looks.
+-- What holds after any list of calls, by the laws of lines and of drawings.
 use Rattle.std.proofs.Common.{◌≡◌, ℕ, leb, List, length, take, sym, ap, ◌∙◌, subst, arith}
 use Rattle.std.proofs.lemmas.List.{length-map}
 use Rattle.std.proofs.lemmas.Bool.Decides.{nat_tests}
@@ -21,7 +21,7 @@ use Rattle.legends.proofs.Steps.{in_step_lem}
 same_length : (n a b c : ℕ) → a ≡ n → b ≡ n → c ≡ n → fit n a b c ≡ leb n 256
 same_length n a b c p q r = grind (arith, nat_tests)
 
-module _ (lines : LinesStand) (bounds : BoundsStand) (looks : DrawingsStand) where
+module _ (lines : LinesStand) (bounds : BoundsStand) (drawings : DrawingsStand) where
   fitting : Fitting
   fitting f n calls =
       let b : Book = book_after n calls in
@@ -39,7 +39,7 @@ module _ (lines : LinesStand) (bounds : BoundsStand) (looks : DrawingsStand) whe
   promise : LooksPromise
   promise f keeps n calls items exact =
       let b : Book = book_after n calls in
-      let kept : Promise f b.settings b.signs (take n items) = subst (Promise f b.settings b.signs) (sym exact) (looks.promise f keeps b.settings b.signs) in
+      let kept : Promise f b.settings b.signs (take n items) = subst (Promise f b.settings b.signs) (sym exact) (drawings.promise f keeps b.settings b.signs) in
       record {
         exact = exact;
         alike = λ others a. ap (from_blank f) (same_book n calls others a) ∙ sym exact;
@@ -49,4 +49,4 @@ module _ (lines : LinesStand) (bounds : BoundsStand) (looks : DrawingsStand) whe
       }
 
   pub histories_stand : HistoriesStand
-  histories_stand = record { in_step = in_step_lem lines; one_book = same_book; fitting = fitting; drawable = drawable; promise = promise; looks = looks }
+  histories_stand = record { in_step = in_step_lem lines; one_book = same_book; fitting = fitting; drawable = drawable; promise = promise; drawings = drawings }

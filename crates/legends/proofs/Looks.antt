@@ -24,10 +24,10 @@ use Rattle.legends.specs.Answers.{fits, draw_answer, room_answer}
 use Rattle.legends.specs.Laws.{HistoriesStand}
 use Rattle.legends.specs.Promise.{Look, from_blank}
 
-module _ (looks : DrawingsStand) (s : Settings) (mapped : List SignRow) (positions : List Position) (items : List Item) (n : ℕ)
+module _ (drawings : DrawingsStand) (s : Settings) (mapped : List SignRow) (positions : List Position) (items : List Item) (n : ℕ)
     (of_mapped : length mapped ≡ n) (of_positions : length positions ≡ n) where
   drawn_long : length (drawn s (side mapped positions)) ≡ n
-  drawn_long = (looks.turn_by_turn (is_forward s.direction) mapped positions (of_positions ∙ sym of_mapped)).as_many ∙ of_positions
+  drawn_long = (drawings.turn_by_turn (is_forward s.direction) mapped positions (of_positions ∙ sym of_mapped)).as_many ∙ of_positions
 
   -- the first items are those drawn, and what lies past them stays
   pub seen : take n (drawn_over s mapped positions items) ≡ drawn s (side mapped positions)
@@ -43,7 +43,7 @@ module _ (stand : HistoriesStand) (f : FaceMeaning) (n : ℕ) (calls : List Call
   drawn_left =
       let b : Book = book_after n calls in
       ap (λ (st : State). drawn st.legend.settings (side st.mapped st.positions)) (left ∙ stand.in_step f n calls)
-      ∙ ap (drawn b.settings) (stand.looks.side_by_side (route f b.settings b.signs))
+      ∙ ap (drawn b.settings) (stand.drawings.side_by_side (route f b.settings b.signs))
 
   pub as_many : l.len ≡ n
   as_many = ap (λ (st : State). st.legend.len) (left ∙ stand.in_step f n calls)
@@ -51,7 +51,7 @@ module _ (stand : HistoriesStand) (f : FaceMeaning) (n : ℕ) (calls : List Call
   pub looks : Keeps f → Fit l.len (length signs) (length mapped) (length positions) → (items after : List Item) → after ≡ drawn_over l.settings mapped positions items → Look f n calls after
   looks keeps fit items after e =
       stand.promise f keeps n calls after
-      (ap (take n) e ∙ seen stand.looks l.settings mapped positions items n (fit.of_mapped ∙ as_many) (fit.of_positions ∙ as_many) ∙ drawn_left)
+      (ap (take n) e ∙ seen stand.drawings l.settings mapped positions items n (fit.of_mapped ∙ as_many) (fit.of_positions ∙ as_many) ∙ drawn_left)
 
   -- such lists are never refused for what they hold, and for their lengths only where the legend is too long
   module _ (keeps : Keeps f) (items pens : ℕ) where

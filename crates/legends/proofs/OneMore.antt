@@ -35,12 +35,12 @@ module _ (f : FaceMeaning) where
   left_all n calls i st h was = was ∙ ap (left_by f n) (take_all i calls h)
 
 -- no call writes in the drawing past the signs
-module _ (looks : DrawingsStand) (l : Legend) (signs mapped : List SignRow) (positions : List Position) (items : List Item) (n : ℕ) (same : l.len ≡ n)
+module _ (drawings : DrawingsStand) (l : Legend) (signs mapped : List SignRow) (positions : List Position) (items : List Item) (n : ℕ) (same : l.len ≡ n)
     (fit : Fit l.len (length signs) (length mapped) (length positions)) where
   past : (c : Call) → drop n (drawn_by c (state l signs mapped positions) items) ≡ drop n items
   past (Put lent place row) = refl
   past (Turn lent settings) = refl
-  past (Draw lent room) = rest_stays looks l.settings mapped positions items n (fit.of_mapped ∙ same) (fit.of_positions ∙ same)
+  past (Draw lent room) = rest_stays drawings l.settings mapped positions items n (fit.of_mapped ∙ same) (fit.of_positions ∙ same)
 
   pub past_stays : (c : Call) (accepted : Bool) → drop n (cond accepted (drawn_by c (state l signs mapped positions) items) items) ≡ drop n items
   past_stays c true = past c

@@ -37,4 +37,4 @@ pub record HistoriesStand : Type 0 where
   pub fitting : Fitting
   pub drawable : Drawable
   pub promise : LooksPromise
-  pub looks : DrawingsStand
+  pub drawings : DrawingsStand

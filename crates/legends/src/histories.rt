@@ -3,7 +3,7 @@ ghost use Rattle.std.specs.Prelude.{◌≡◌, ◌≤◌, true, ◌++◌, length
 ghost use Rattle.legends.specs.Answers.{answer_to, look_answer};
 ghost use Rattle.legends.specs.Book.{book_after};
 ghost use Rattle.legends.specs.Fits.{Fit};
-ghost use Rattle.legends.specs.Leaves.{state, drawn_by, leaves, left_by, lists, lists_of};
+ghost use Rattle.legends.specs.Leaves.{drawn_by, leaves, left_by, lists, lists_of, state};
 ghost use Rattle.legends.specs.Promise.{Look, from_blank};
 ghost use Rattle.drawings.specs.DrawAnswers.{PensAfter};
 ghost use Rattle.placement.specs.Bounded.{bounded};

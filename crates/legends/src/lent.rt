@@ -2,7 +2,7 @@
 ghost use Rattle.std.specs.Prelude.{◌≡◌, ◌≤◌, true, length, is_ok, if◌then◌else◌};
 ghost use Rattle.legends.specs.Fits.{Fit};
 ghost use Rattle.legends.specs.Answers.{answer_to};
-ghost use Rattle.legends.specs.Leaves.{state, leaves};
+ghost use Rattle.legends.specs.Leaves.{leaves, state};
 ghost use Rattle.legends.specs.Lending.{reaching};
 ghost use Rattle.legends.specs.declared.call.Call.TheVariants.{Draw, Put, Turn};
 ghost use Rattle.drawings.specs.Drawing.{drawn_over};

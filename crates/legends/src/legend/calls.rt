@@ -2,7 +2,7 @@
 ghost use Rattle.std.specs.Prelude.{◌≡◌, true, length, is_ok, if◌then◌else◌};
 ghost use Rattle.legends.specs.Answers.{make_answer, put_answer, turn_answer};
 ghost use Rattle.legends.specs.Fits.{Fit, fit};
-ghost use Rattle.legends.specs.Leaves.{InStep, Made, after_make, after_put, after_turn, state, left_if, lists, lists_of};
+ghost use Rattle.legends.specs.Leaves.{InStep, Made, after_make, after_put, after_turn, left_if, lists, lists_of, state};
 
 use crate::legend::Legend;
 use crate::refusal::Refusal;

@@ -2,7 +2,7 @@
 ghost use Rattle.std.specs.Prelude.{◌≡◌, ℕ, true, List, length, is_ok, if◌then◌else◌};
 ghost use Rattle.faces.specs.Meaning.{FaceMeaning, Keeps};
 ghost use Rattle.legends.specs.Answers.{draw_answer, room_answer};
-ghost use Rattle.legends.specs.Leaves.{state, left_by};
+ghost use Rattle.legends.specs.Leaves.{left_by, state};
 ghost use Rattle.legends.specs.Promise.{Look};
 ghost use Rattle.legends.specs.declared.call.Call.{Call};
 ghost use Rattle.drawings.specs.DrawAnswers.{PensAfter};

@@ -43,7 +43,7 @@ loop-call-preserved g c =
     let st = state l.legend l.signs l.mapped l.positions in
     let next = state c.obey.new.legend c.obey.new.signs c.obey.new.mapped c.obey.new.positions in (
       left_more f n calls i (Put 0 0 no_row) st next h l.invariant.0 c.obey.ensures.lists,
-      ap (drop n) c.obey.ensures.items ∙ past_stays stand.looks l.legend l.signs l.mapped l.positions l.items n same fit call _ ∙ l.invariant.1,
+      ap (drop n) c.obey.ensures.items ∙ past_stays stand.drawings l.legend l.signs l.mapped l.positions l.items n same fit call _ ∙ l.invariant.1,
     )
 
 pub returns-in_err-draw : goal.returns-in_err-draw
