@@ -103,7 +103,7 @@ pub fn draw_line(
     if !all_bounded(rows, positions) {
         return Err(Refusal::OutOfBounds);
     }
-    let _ = bounds_stand();
+    bounds_stand();
     let forward = settings.direction.is_forward();
     set_pens(forward, positions, pens);
     draw_items(forward, rows, positions, items, pens);

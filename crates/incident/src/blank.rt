@@ -19,8 +19,8 @@ pub fn from_blank<F: Face>(
     ensures { IsOkAnd result (λ items. items ≡ from_blank (F.meaning face.now) (book_of settings signs)) }
 {
     let _ = lines_stand();
-    let _ = bounds_stand();
-    let _ = drawings_stand();
+    bounds_stand();
+    drawings_stand();
     let mut rows = signs;
     let mut positions = [NOWHERE; 2];
     let mut items = [NO_ITEM; 2];

@@ -73,7 +73,7 @@ pub fn look_after<F: Face>(
     if items.len() < len || pens.len() < len {
         return Err(Refusal::NoRoom);
     }
-    let _ = histories_stand();
+    histories_stand();
     let mut legend = Legend::make(face, len, signs, mapped, positions)?;
     for call in calls {
         let _ = obey(

@@ -6,17 +6,15 @@ use drawings::drawings_stand;
 use placement::{bounds_stand, lines_stand};
 
 // What holds after any list of calls: the lists follow the book, and a look shows the book and keeps its promise.
-pub fn histories_stand() -> bool
+pub fn histories_stand()
     ensures { HistoriesStand }
 {
     let _ = lines_stand();
-    let _ = bounds_stand();
-    drawings_stand()
+    bounds_stand();
+    drawings_stand();
 }
 
 // Worked books and spans.
-pub fn worked_legends_stand() -> bool
+pub fn worked_legends_stand()
     ensures { WorkedLegends }
-{
-    true
-}
+{}

@@ -14,11 +14,9 @@ pub fn lines_stand() -> bool
 }
 
 // What the test of a line's bounds says, and that a route stays within them.
-pub fn bounds_stand() -> bool
+pub fn bounds_stand()
     ensures { BoundsStand }
-{
-    true
-}
+{}
 
 // What a placed mark keeps by any box of a run, and worked placements.
 pub fn placing_stands() -> bool

@@ -33,7 +33,7 @@ impl Legend {
         ensures decided { (f : FaceMeaning) → Keeps f → (n : ℕ) (calls : List Call) → state self.now signs.now mapped.now positions.now ≡ left_by f n calls → result ≡ room_answer n (length items.old) (length pens.old) }
         ensures look { (f : FaceMeaning) → Keeps f → (n : ℕ) (calls : List Call) → state self.now signs.now mapped.now positions.now ≡ left_by f n calls → is_ok result ≡ true → Look f n calls items.new }
     {
-        let _ = histories_stand();
+        histories_stand();
         if !fitting(self.len, signs.len(), mapped.len(), positions.len()) {
             return Err(Refusal::Length);
         }
