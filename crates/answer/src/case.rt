@@ -1,6 +1,6 @@
 // A case as far as it is read: the face's records, the line and its signs.
 use faces::{CodeRecord, GlyphRecord};
-use placement::{Direction, Position, Settings};
+use placement::{Position, Settings};
 use signs::SignRow;
 use std::alloc::{AllocError, Global};
 
@@ -35,11 +35,7 @@ impl Case {
             glyphs: Vec::new(heap),
             codes: Vec::new(heap),
             len: 0,
-            settings: Settings {
-                direction: Direction::LeftToRight,
-                script: 0,
-                adjust: false,
-            },
+            settings: Settings::default(),
             rows: Vec::new(heap),
             starts: Vec::new(heap),
         })

@@ -36,7 +36,8 @@ fn draw_all(
     ensures pen { IfOk result (λ d. d.pen ≡ pen_after forward rows.now positions.now (length rows.now)) }
 {
     let mut items = Vec::new(heap);
-    let mut pen = Pen { x: 0, y: 0 };
+    let mut pen = Pen::default();
+    // By number, since the places run up or down.
     for k in 0..rows.len() {
         let place = place_at(forward, rows.len(), k);
         let position = positions[place];

@@ -4,6 +4,7 @@
 mod answers;
 mod case;
 mod drawing;
+mod line;
 mod pen;
 mod reading;
 mod script;
@@ -11,7 +12,6 @@ mod stop;
 
 use answers::answer;
 use case::Case;
-use reading::take_line;
 use std::io::{BufRead, BufReader, BufWriter, Write};
 
 fn run(rt: &HostRuntime) -> anyhow::Result<()> {
@@ -19,7 +19,7 @@ fn run(rt: &HostRuntime) -> anyhow::Result<()> {
     let mut case = Case::new(rt.alloc(), "")?;
     for line in BufReader::new(rt.alloc(), rt.stdin())?.lines(rt.alloc()) {
         let line = line?;
-        if take_line(rt.alloc(), &mut case, line.as_str())? {
+        if case.take_line(rt.alloc(), line.as_str())? {
             answer(rt.alloc(), &mut out, &case)?;
         }
     }

@@ -1,7 +1,10 @@
 // The pen that draws a line, and what is drawn of a sign.
+use std::fmt;
+
 pub mod moves;
 
-#[derive(Clone, Copy)]
+// Sums of 64 bits, as start positions may lead beyond what a drawing of 32 bits holds.
+#[derive(Clone, Copy, Default)]
 pub struct Pen {
     pub x: i64,
     pub y: i64,
@@ -14,4 +17,16 @@ pub struct Item {
     pub glyph: u32,
     pub x: i64,
     pub y: i64,
+}
+
+impl fmt::Display for Pen {
+    fn fmt<W: fmt::Write>(&self, f: &mut fmt::Formatter<W>) -> fmt::Result {
+        write!(f, "{},{}", self.x, self.y)
+    }
+}
+
+impl fmt::Display for Item {
+    fn fmt<W: fmt::Write>(&self, f: &mut fmt::Formatter<W>) -> fmt::Result {
+        write!(f, "{},{},{},{}", self.place, self.glyph, self.x, self.y)
+    }
 }

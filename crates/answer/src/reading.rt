@@ -12,20 +12,15 @@ fn is_set(field: &str) -> anyhow::Result<bool> {
 }
 
 fn direction(field: &str) -> anyhow::Result<Direction> {
-    match field.parse::<i64>()? {
-        1 => Ok(Direction::LeftToRight),
-        2 => Ok(Direction::RightToLeft),
-        3 => Ok(Direction::TopToBottom),
-        4 => Ok(Direction::BottomToTop),
-        _ => Err(anyhow!("a direction is 1 to 4")),
-    }
+    let number = field.parse::<i64>()?;
+    u8::try_from(number)
+        .ok()
+        .and_then(|number| Direction::try_from(number).ok())
+        .ok_or_else(|| anyhow!("a direction is 1 to 4"))
 }
 
 fn script(field: &str) -> anyhow::Result<u32> {
-    match script_number(field.as_bytes()) {
-        Some(number) => Ok(number),
-        None => Err(anyhow!("a script is four letters or -")),
-    }
+    script_number(field.as_bytes()).ok_or_else(|| anyhow!("a script is four letters or -"))
 }
 
 // glyph, across, down, left, bottom, right, top
@@ -102,32 +97,6 @@ fn start(fields: &[&str]) -> anyhow::Result<Start> {
     })
 }
 
-// len, direction, script, adjust: a new line over the same face
-fn begin_line(case: &mut Case, fields: &[&str]) -> anyhow::Result<()> {
-    let [len, way, letters, adjust] = fields else {
-        return Err(anyhow!("a line has four fields"));
-    };
-    case.len = len.parse::<usize>()?;
-    case.settings = Settings {
-        direction: direction(way)?,
-        script: script(letters)?,
-        adjust: is_set(adjust)?,
-    };
-    case.rows.clear();
-    case.starts.clear();
-    Ok(())
-}
-
-// label, if any
-fn begin_case(heap: Global, case: &mut Case, fields: &[&str]) -> anyhow::Result<()> {
-    let label = match fields {
-        [label, ..] => *label,
-        [] => "",
-    };
-    *case = Case::new(heap, label)?;
-    Ok(())
-}
-
 fn only<'a>(fields: &[&'a str]) -> anyhow::Result<&'a str> {
     match fields {
         [field] => Ok(*field),
@@ -135,59 +104,54 @@ fn only<'a>(fields: &[&'a str]) -> anyhow::Result<&'a str> {
     }
 }
 
-// Takes a line of the face; whether it is one.
-fn take_face(case: &mut Case, word: &str, fields: &[&str]) -> anyhow::Result<bool> {
-    match word {
-        "em" => case.em = only(fields)?.parse::<u32>()?,
-        "glyph" => case.glyphs.push(boxed(fields)?)?,
-        "bare" => case.glyphs.push(bare(fields)?)?,
-        "code" => case.codes.push(code(fields)?)?,
-        _ => return Ok(false),
+impl Case {
+    // len, direction, script, adjust: a new line over the same face
+    fn begin_line(&mut self, fields: &[&str]) -> anyhow::Result<()> {
+        let [len, way, letters, adjust] = fields else {
+            return Err(anyhow!("a line has four fields"));
+        };
+        self.len = len.parse::<usize>()?;
+        self.settings = Settings {
+            direction: direction(way)?,
+            script: script(letters)?,
+            adjust: is_set(adjust)?,
+        };
+        self.rows.clear();
+        self.starts.clear();
+        Ok(())
     }
-    Ok(true)
-}
 
-// Takes a line of the signs; whether it is one.
-fn take_signs(case: &mut Case, word: &str, fields: &[&str]) -> anyhow::Result<bool> {
-    match word {
-        "line" => begin_line(case, fields)?,
-        "sign" => case.rows.push(sign(fields)?)?,
-        "pos" => case.starts.push(start(fields)?)?,
-        _ => return Ok(false),
+    // Takes the fields that stand after a word.
+    fn take_fields(&mut self, heap: Global, word: &str, fields: &[&str]) -> anyhow::Result<()> {
+        match word {
+            "case" => *self = Case::new(heap, fields.first().copied().unwrap_or(""))?,
+            "clean" => {}
+            "trace" => self.trace = is_set(only(fields)?)?,
+            "em" => self.em = only(fields)?.parse::<u32>()?,
+            "glyph" => self.glyphs.push(boxed(fields)?)?,
+            "bare" => self.glyphs.push(bare(fields)?)?,
+            "code" => self.codes.push(code(fields)?)?,
+            "line" => self.begin_line(fields)?,
+            "sign" => self.rows.push(sign(fields)?)?,
+            "pos" => self.starts.push(start(fields)?)?,
+            _ => return Err(anyhow!("an unknown word")),
+        }
+        Ok(())
     }
-    Ok(true)
-}
 
-// Takes the fields that stand after a word.
-fn take_fields(heap: Global, case: &mut Case, word: &str, fields: &[&str]) -> anyhow::Result<()> {
-    if take_signs(case, word, fields)? || take_face(case, word, fields)? {
-        return Ok(());
+    // Takes a line of the input; whether the case is to be answered now.
+    pub fn take_line(&mut self, heap: Global, line: &str) -> anyhow::Result<bool> {
+        let line = line.trim_end();
+        if line.is_empty() || line.starts_with('#') {
+            return Ok(false);
+        }
+        if line == "run" {
+            return Ok(true);
+        }
+        let fields = line.split(',').collect::<Vec<&str>>(heap)?;
+        if let [word, rest @ ..] = fields.as_slice() {
+            self.take_fields(heap, word, rest)?;
+        }
+        Ok(false)
     }
-    match word {
-        "case" => begin_case(heap, case, fields)?,
-        "clean" => {}
-        "trace" => case.trace = is_set(only(fields)?)?,
-        _ => return Err(anyhow!("an unknown word")),
-    }
-    Ok(())
-}
-
-// Takes a line of the input; whether the case is to be answered now.
-pub fn take_line(heap: Global, case: &mut Case, line: &str) -> anyhow::Result<bool> {
-    let line = line.trim_end();
-    if line.is_empty() || line.starts_with('#') {
-        return Ok(false);
-    }
-    if line == "run" {
-        return Ok(true);
-    }
-    let mut fields: Vec<&str> = Vec::new(heap);
-    for field in line.split(',') {
-        fields.push(field)?;
-    }
-    let [word, rest @ ..] = fields.as_slice() else {
-        return Ok(false);
-    };
-    take_fields(heap, case, word, rest)?;
-    Ok(false)
 }

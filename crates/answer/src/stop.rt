@@ -1,29 +1,30 @@
-// What ends a case early: a call that refuses, by its number, or a failure of the program.
+// What ends a case early: a call that refuses, or a failure of the program.
 use placement::Refused;
 use std::alloc::AllocError;
 use std::io;
 
 #[derive(Drop)]
 pub enum Stop {
-    Refusal(u8),
+    Face(faces::Refusal),
+    Line(placement::Refusal),
     Failure(anyhow::Error),
 }
 
 impl From<faces::Refusal> for Stop {
     fn from(refusal: faces::Refusal) -> Stop {
-        Stop::Refusal(refusal.number())
+        Stop::Face(refusal)
     }
 }
 
 impl From<placement::Refusal> for Stop {
     fn from(refusal: placement::Refusal) -> Stop {
-        Stop::Refusal(refusal.number())
+        Stop::Line(refusal)
     }
 }
 
 impl<L: Drop> From<Refused<L>> for Stop {
     fn from(refused: Refused<L>) -> Stop {
-        Stop::Refusal(refused.refusal.number())
+        Stop::Line(refused.refusal)
     }
 }
 

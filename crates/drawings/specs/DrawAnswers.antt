@@ -6,6 +6,7 @@ use Rattle.placement.specs.Bounded.{bounded}
 use Rattle.placement.specs.Steps.{fits}
 use Rattle.drawings.specs.declared.pen.Pen.{Pen}
 use Rattle.drawings.specs.declared.refusal.Refusal.{Refusal}
+use Rattle.drawings.specs.declared.room.Room.{Room}
 use Rattle.drawings.specs.declared.refusal.Refusal.TheVariants.{Length, NoRoom, OutOfBounds}
 
 -- There is an item and a pen for each sign.
@@ -25,3 +26,8 @@ draw_answer rows positions items pens =
 abbrev pub PensAfter : Bool → List Pen → List Pen → Type 0
 PensAfter true before after = length after ≡ length before
 PensAfter false before after = after ≡ before
+
+-- A drawing writes in the lists that it is lent, and lends no others in their place.
+pub record SameRoom (before after : Room) : Type 0 where
+  pub items : after.items.ghost_name ≡ before.items.ghost_name
+  pub pens : after.pens.ghost_name ≡ before.pens.ghost_name

@@ -1,6 +1,6 @@
 // Drawing a line into lists that the caller lends: first the pen before each sign is noted, then each sign is drawn there.
 ghost use Rattle.std.specs.Prelude.{◌≡◌, ◌<◌, ◌≤◌, ◌++◌, length, drop, is_ok, if◌then◌else◌};
-ghost use Rattle.drawings.specs.DrawAnswers.{PensAfter, draw_answer};
+ghost use Rattle.drawings.specs.DrawAnswers.{PensAfter, SameRoom, draw_answer};
 ghost use Rattle.drawings.specs.Drawing.{drawn_in, drawn_over, side};
 ghost use Rattle.drawings.specs.Pens.{Near, Penned, item_at, move_pen, place_at};
 ghost use Rattle.placement.specs.Room.{AllLight, Light};
@@ -8,6 +8,7 @@ ghost use Rattle.placement.specs.Room.{AllLight, Light};
 use crate::item::Item;
 use crate::pen::Pen;
 use crate::refusal::Refusal;
+use crate::room::Room;
 use placement::{MOST_SIGNS, Position, Settings, all_bounded, bounds_stand};
 use signs::SignRow;
 
@@ -52,9 +53,9 @@ fn set_pens(forward: bool, positions: &[Position], pens: &mut [Pen])
     ensures { Penned forward positions.now pens.new }
 {
     let len = positions.len();
-    let mut pen = Pen { x: 0, y: 0 };
-    for k in 0..len {
-        pens[k] = pen;
+    let mut pen = Pen::default();
+    for (k, noted) in pens[..len].iter_mut().enumerate() {
+        *noted = pen;
         pen = move_pen(pen, positions[place_at(forward, len, k)]);
     }
 }
@@ -75,9 +76,9 @@ fn draw_items(
     ensures { items.new ≡ drawn_in forward (side rows.now positions.now) ++ drop (length rows.now) items.old }
 {
     let len = positions.len();
-    for k in 0..len {
+    for (k, drawn) in items[..len].iter_mut().enumerate() {
         let place = place_at(forward, len, k);
-        items[k] = item(pens[k], place, rows[place], positions[place]);
+        *drawn = item(pens[k], place, rows[place], positions[place]);
     }
 }
 
@@ -86,18 +87,18 @@ pub fn draw_line(
     settings: Settings,
     rows: &[SignRow],
     positions: &[Position],
-    items: &mut [Item],
-    pens: &mut [Pen],
+    room: &mut Room,
 ) -> Result<(), Refusal>
-    ensures answer { result ≡ draw_answer rows.now positions.now (length items.old) (length pens.old) }
-    ensures items { items.new ≡ (if is_ok result then drawn_over settings rows.now positions.now items.old else items.old) }
-    ensures pens { PensAfter (is_ok result) pens.old pens.new }
+    ensures answer { result ≡ draw_answer rows.now positions.now (length room.old.items.now) (length room.old.pens.now) }
+    ensures items { room.new.items.now ≡ (if is_ok result then drawn_over settings rows.now positions.now room.old.items.now else room.old.items.now) }
+    ensures pens { PensAfter (is_ok result) room.old.pens.now room.new.pens.now }
+    ensures same { SameRoom room.old room.new }
 {
     let len = rows.len();
     if len > MOST_SIGNS || positions.len() != len {
         return Err(Refusal::Length);
     }
-    if items.len() < len || pens.len() < len {
+    if room.items.len() < len || room.pens.len() < len {
         return Err(Refusal::NoRoom);
     }
     if !all_bounded(rows, positions) {
@@ -105,7 +106,8 @@ pub fn draw_line(
     }
     bounds_stand();
     let forward = settings.direction.is_forward();
+    let pens = &mut *room.pens;
     set_pens(forward, positions, pens);
-    draw_items(forward, rows, positions, items, pens);
+    draw_items(forward, rows, positions, room.items, pens);
     Ok(())
 }

@@ -7,5 +7,5 @@ use looks::look_stands;
 pub fn drawings_stand()
     ensures { DrawingsStand }
 {
-    let _ = look_stands();
+    look_stands();
 }

@@ -5,22 +5,18 @@ ghost use Rattle.drawings.specs.Refusals.{number_of};
 #[derive(Clone, Copy, PartialEq, Eq, Debug)]
 pub enum Refusal {
     // More signs than a line may have, or lists of different lengths.
-    Length,
+    Length = 13,
     // A list of items or of pens that is shorter than the line.
-    NoRoom,
+    NoRoom = 15,
     // A glyph, an advance or an offset beyond what a line may hold.
-    OutOfBounds,
+    OutOfBounds = 16,
 }
 
-impl Refusal {
-    // The number by which callers know it.
-    pub fn number(self) -> u8
-        ensures { result ≡ number_of self }
-    {
-        match self {
-            Refusal::Length => 13,
-            Refusal::NoRoom => 15,
-            Refusal::OutOfBounds => 16,
-        }
+// The number by which callers know it.
+impl From<Refusal> for u8 {
+    ghost from_gives = { λ e n. n ≡ number_of e };
+
+    fn from(refusal: Refusal) -> u8 {
+        refusal as u8
     }
 }

@@ -1,7 +1,9 @@
 -- The laws of records in order.
-use Rattle.std.proofs.Common.{◌≡◌, ℕ, suc, ◌+◌, ◌<◌, ◌≤◌, true, List, [], ◌∷◌, ◌++◌, length, get_or, Some, sym, refl, ◌∙◌, ⊎_elim, arith, length-append}
+use Rattle.std.proofs.Common.{◌≡◌, ℕ, suc, ◌+◌, ◌<◌, ◌≤◌, Bool, true, false, nat_lt, List, [], ◌∷◌, ◌++◌, length, get_or, Some, sym, refl, ◌∙◌, subst, ⊎_elim, arith, length-append}
+use Rattle.std.proofs.lemmas.List.{get_or_default}
 use lib.Seq.{get_or-append_seam}
-use Rattle.std.proofs.lemmas.Bool.{and_from, le-leb, cases_order}
+use Rattle.std.proofs.lemmas.Bool.{and_from, le-leb, ltb-true, ltb-false, cases_order}
+use Rattle.std.specs.List.{AllAdjacentBelow, IsAllAdjacentAnswer}
 use Rattle.faces.specs.Keys.{rising_from, rising, key_at, Rises, first}
 use Rattle.faces.specs.KeyLaws.{KeyLaws}
 use Rattle.faces.proofs.Rising.{rises, key_read, first_only, first_none}
@@ -12,6 +14,28 @@ module _ {X : Type 0} (key : X → ℕ) where
   passes_from low (x ∷ xs) least r =
       and_from _ _ (le-leb low (key x) (least 0 (omega arith)))
       (passes_from (key x + 1) xs (λ i h. omega (arith, r 0 (suc i) (omega arith) (omega arith))) (λ i j l h. r (suc i) (suc j) (omega arith) (omega arith)))
+
+  -- neighbours that rise
+  from_neighbours : (x : X) (xs : List X) → AllAdjacentBelow (λ a b. true ≡ nat_lt (key a) (key b)) (x ∷ xs) (length (x ∷ xs)) → rising_from key (key x + 1) xs ≡ true
+  from_neighbours x [] h = refl
+  from_neighbours x (y ∷ ys) h =
+      and_from _ _ (le-leb (key x + 1) (key y) (omega (arith, ltb-true (key x) (key y) (sym (h 0 x (omega arith))))))
+      (from_neighbours y ys (λ k d l.
+      let e : suc k + 1 ≡ suc (k + 1) = omega arith in
+      subst (λ n. true ≡ nat_lt (key (get_or (y ∷ ys) k d)) (key (get_or (x ∷ y ∷ ys) n d))) e (h (suc k) d (omega arith))))
+
+  -- what `is_sorted_by` answers where it compares keys
+  pub rising_answer : (xs : List X) (r : Bool) → IsAllAdjacentAnswer (λ a b t. t ≡ nat_lt (key a) (key b)) xs r → r ≡ rising key xs
+  rising_answer [] true h = refl
+  rising_answer (x ∷ xs) true h = sym (and_from _ _ (le-leb 0 (key x) (omega arith)) (from_neighbours x xs h))
+  rising_answer [] false (k, less, out) = absurd (omega arith)
+  rising_answer (x ∷ xs) false (k, less, out) =
+      elim (rising key (x ∷ xs)) as (λ b. (rising key (x ∷ xs) ≡ b) → false ≡ b) [
+        | true ↦ λ r.
+            let at : (i : ℕ) → i < length (x ∷ xs) → key (get_or (x ∷ xs) i x) ≡ key_at key (x ∷ xs) i = λ i h. key_read key (x ∷ xs) i (get_or (x ∷ xs) i x) h (get_or_default (x ∷ xs) i _ _ h) in
+            absurd (omega (arith, rises key (x ∷ xs) r k (k + 1) (omega arith) less, at k (omega arith), at (k + 1) less, ltb-false _ _ (sym (out x))))
+        | false ↦ λ r. refl
+      ] refl
 
   -- in a rising list a key stands at one place only
   one_place : (xs : List X) → Rises key xs → (i k : ℕ) → i < length xs → k < length xs → key_at key xs k ≡ key_at key xs i → k ≡ i

@@ -1,5 +1,6 @@
 -- Lists of records by their keys: strictly rising lists, the first record of a key, a test of every record.
-use Rattle.std.specs.Prelude.{ℕ, ◌+◌, ◌<◌, Bool, true, cond, ◌&&◌, List, [], ◌∷◌, map, length, Some, None, Option, ◌==◌, nat_le, slice_index}
+use Rattle.std.specs.Prelude.{ℕ, ◌+◌, ◌<◌, Bool, true, ◌&&◌, List, [], ◌∷◌, map, length, Option, ◌==◌, nat_le, slice_index}
+use Rattle.std.specs.List.{find, list_all}
 
 module _ {X : Type 0} (key : X → ℕ) where
   -- no key is below the low one, and each next key is above the last
@@ -20,10 +21,8 @@ module _ {X : Type 0} (key : X → ℕ) where
 
   -- the first record of a key
   abbrev pub first : ℕ → List X → Option X
-  first k [] = None
-  first k (x ∷ xs) = cond (key x == k) (Some x) (first k xs)
+  first k = find (λ x. key x == k)
 
 -- a test that every element passes
 abbrev pub every : {X : Type 0} → (X → Bool) → List X → Bool
-every test [] = true
-every test (x ∷ xs) = test x && every test xs
+every = list_all

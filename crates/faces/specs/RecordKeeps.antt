@@ -74,10 +74,10 @@ pub recorded_keeps : (f : RecordFace) → Keeps (recorded_meaning f)
 recorded_keeps f = record {
   em_low = f.em_low;
   em_high = f.em_high;
-  glyph_low = λ c g e. (glyph_kept c f.codes.now _ g refl f.codes_sound e).0;
-  glyph_high = λ c g e. (glyph_kept c f.codes.now _ g refl f.codes_sound e).1;
-  across_high = λ g. across_kept (first glyph_key g f.glyphs.now);
-  down_low = λ g. (down_kept (first glyph_key g f.glyphs.now)).0;
-  down_high = λ g. (down_kept (first glyph_key g f.glyphs.now)).1;
-  boxes = λ g e h. box_kept g f.glyphs.now _ e refl f.glyphs_sound h;
+  glyph_low = λ c g e. (glyph_kept c f.codes.rows.now _ g refl f.codes_sound e).0;
+  glyph_high = λ c g e. (glyph_kept c f.codes.rows.now _ g refl f.codes_sound e).1;
+  across_high = λ g. across_kept (first glyph_key g f.glyphs.rows.now);
+  down_low = λ g. (down_kept (first glyph_key g f.glyphs.rows.now)).0;
+  down_high = λ g. (down_kept (first glyph_key g f.glyphs.rows.now)).1;
+  boxes = λ g e h. box_kept g f.glyphs.rows.now _ e refl f.glyphs_sound h;
 }

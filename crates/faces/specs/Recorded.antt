@@ -4,4 +4,4 @@ use Rattle.faces.specs.Meaning.{FaceMeaning}
 use Rattle.faces.specs.Records.{record_meaning}
 
 abbrev pub recorded_meaning : RecordFace → FaceMeaning
-recorded_meaning f = record_meaning f.em f.glyphs.now f.codes.now
+recorded_meaning f = record_meaning f.em f.glyphs.rows.now f.codes.rows.now

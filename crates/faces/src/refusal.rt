@@ -2,24 +2,19 @@
 ghost use Rattle.std.specs.Prelude.{◌≡◌};
 ghost use Rattle.faces.specs.Refusals.{number_of};
 
+// The discriminants are the numbers by which callers know them.
 #[derive(Clone, Copy, PartialEq, Eq, Debug)]
 pub enum Refusal {
-    EmOutsideLimits,
-    NotRising,
-    CrossedEdges,
-    BadCode,
+    EmOutsideLimits = 1,
+    NotRising = 2,
+    CrossedEdges = 3,
+    BadCode = 4,
 }
 
-impl Refusal {
-    // The number by which callers know it.
-    pub fn number(self) -> u8
-        ensures { result ≡ number_of self }
-    {
-        match self {
-            Refusal::EmOutsideLimits => 1,
-            Refusal::NotRising => 2,
-            Refusal::CrossedEdges => 3,
-            Refusal::BadCode => 4,
-        }
+impl From<Refusal> for u8 {
+    ghost from_gives = { λ e n. n ≡ number_of e };
+
+    fn from(refusal: Refusal) -> u8 {
+        refusal as u8
     }
 }

@@ -1,5 +1,5 @@
 -- Numbers in bytes, the highest byte first. A byte is a number below 256; every list of numbers is read as bytes.
-use Rattle.std.specs.Prelude.{ℕ, ◌+◌, ◌*◌, ◌%◌, cond, List, length, ℤ, Ok, Err, Result, nat_le, slice_index}
+use Rattle.std.specs.Prelude.{ℕ, zero, suc, ◌+◌, ◌*◌, ◌%◌, cond, List, [], ◌∷◌, length, ℤ, Ok, Err, Result, nat_le, slice_index}
 use Rattle.std.specs.Int.{w16}
 use Rattle.std.proofs.Common.{to_z}
 use Rattle.fonts.specs.declared.faults.ByteFault.{ByteFault}
@@ -17,6 +17,11 @@ signed_word bs at = to_z w16 (word bs at)
 
 abbrev pub long : List ℕ → ℕ → ℕ
 long bs at = byte_at bs at * 16777216 + byte_at bs (at + 1) * 65536 + byte_at bs (at + 2) * 256 + byte_at bs (at + 3)
+
+-- Some bytes at a place.
+abbrev pub bytes_at : List ℕ → ℕ → ℕ → List ℕ
+bytes_at bs at zero = []
+bytes_at bs at (suc n) = byte_at bs at ∷ bytes_at bs (at + 1) n
 
 -- A field of some bytes at a place: what it holds, or a fault at the place where its bytes pass the end.
 abbrev pub field : {A : Type 0} → List ℕ → ℕ → ℕ → A → Result A ByteFault

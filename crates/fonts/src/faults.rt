@@ -2,20 +2,21 @@
 ghost use Rattle.std.specs.Prelude.{◌≡◌};
 ghost use Rattle.fonts.specs.Faults.{in_table, number_of};
 
+// The discriminants are the numbers by which callers know them.
 #[derive(Clone, Copy, PartialEq, Eq, Debug)]
 pub enum Fault {
     // The em is below 16 or above 16384.
-    EmOutsideLimits,
+    EmOutsideLimits = 1,
     // A field or a table reaches past its end, or a list is short of its count.
-    PastEnd,
+    PastEnd = 5,
     // A version, a format or a count that is not known.
-    Unknown,
+    Unknown = 6,
     // A table, or the pair of platform and encoding, is not there.
-    Missing,
+    Missing = 7,
     // A range starts above its end, or not above the last end.
-    BadRange,
+    BadRange = 8,
     // The ascender lies below the descender.
-    AscenderBelow,
+    AscenderBelow = 9,
 }
 
 // A field that its bytes do not have whole.
@@ -32,26 +33,18 @@ pub struct TableFault {
 }
 
 // A fault of a file: the tag of its table and the place in the file.
-#[derive(Clone, Copy)]
+#[derive(Clone, Copy, PartialEq, Eq, Debug)]
 pub struct FontFault {
     pub fault: Fault,
     pub tag: [u8; 4],
     pub place: u64,
 }
 
-impl Fault {
-    // The number by which callers know it.
-    pub fn number(self) -> u8
-        ensures { result ≡ number_of self }
-    {
-        match self {
-            Fault::EmOutsideLimits => 1,
-            Fault::PastEnd => 5,
-            Fault::Unknown => 6,
-            Fault::Missing => 7,
-            Fault::BadRange => 8,
-            Fault::AscenderBelow => 9,
-        }
+impl From<Fault> for u8 {
+    ghost from_gives = { λ e n. n ≡ number_of e };
+
+    fn from(fault: Fault) -> u8 {
+        fault as u8
     }
 }
 

@@ -3,14 +3,13 @@ ghost use Rattle.std.specs.Prelude.{◌≡◌, IsOkAnd};
 ghost use Rattle.incident.specs.FromBlank.{book_of};
 ghost use Rattle.legends.specs.Promise.{from_blank};
 
-use crate::places::{NO_ITEM, NOWHERE, START};
-use drawings::{Item, draw_line, drawings_stand};
+use drawings::{Item, Pen, Room, draw_line, drawings_stand};
 use faces::Face;
 use legends::Refusal;
-use placement::{Settings, bounds_stand, lines_stand, route_line};
+use placement::{Position, Settings, bounds_stand, lines_stand, route_line};
 use signs::SignRow;
 
-// It is never refused.
+// It is never refused. Two signs, and not any N: a longer array than a line may be would be refused.
 pub fn from_blank<F: Face>(
     face: &F,
     settings: Settings,
@@ -18,14 +17,18 @@ pub fn from_blank<F: Face>(
 ) -> Result<[Item; 2], Refusal>
     ensures { IsOkAnd result (λ items. items ≡ from_blank (F.meaning face.now) (book_of settings signs)) }
 {
-    let _ = lines_stand();
+    lines_stand();
     bounds_stand();
     drawings_stand();
     let mut rows = signs;
-    let mut positions = [NOWHERE; 2];
-    let mut items = [NO_ITEM; 2];
-    let mut pens = [START; 2];
+    let mut positions = [Position::default(); 2];
+    let mut items = [Item::default(); 2];
+    let mut pens = [Pen::default(); 2];
     route_line(face, settings, &mut rows, &mut positions)?;
-    draw_line(settings, &rows, &positions, &mut items, &mut pens)?;
+    let mut room = Room {
+        items: &mut items,
+        pens: &mut pens,
+    };
+    draw_line(settings, &rows, &positions, &mut room)?;
     Ok(items)
 }

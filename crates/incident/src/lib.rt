@@ -2,7 +2,6 @@
 #![tactic(auto)]
 
 mod blank;
-mod places;
 mod reports;
 mod story;
 

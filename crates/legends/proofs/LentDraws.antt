@@ -1,7 +1,8 @@
 -- A draw that is lent a part of each list, and a part of the drawing and of the pens.
-use Rattle.std.proofs.Common.{◌≡◌, ℕ, ◌≤◌, Bool, true, false, cond, ◌&&◌, leb, List, ◌++◌, length, take, drop, is_ok, Ok, Err, Result, sym, refl, ap, ◌∙◌, arith}
+use Rattle.std.proofs.Common.{◌≡◌, ℕ, ◌≤◌, Bool, true, false, cond, ◌&&◌, min, leb, List, ◌++◌, length, take, drop, is_ok, Ok, Err, Result, sym, refl, ap, ◌∙◌, arith}
 use Rattle.std.proofs.lemmas.List.{append_assoc, take_all, take-append-drop, length-take-le, drop-append-le}
-use Rattle.std.proofs.lemmas.Bool.{and_parts, cond_both, leb-true, leb-false}
+use Rattle.std.proofs.lemmas.Bool.{and_parts, leb-true, leb-false}
+use Rattle.std.proofs.Math.Nat.{min-eq_left, min-le_left, min-le_right}
 use Rattle.std.proofs.lemmas.Bool.Decides.{nat_tests}
 use Rattle.signs.specs.declared.SignRow.{SignRow}
 use Rattle.placement.specs.declared.Position.{Position}
@@ -14,45 +15,42 @@ use Rattle.legends.specs.declared.call.Call.TheVariants.{Draw}
 use Rattle.legends.specs.declared.refusal.Refusal.{Refusal}
 use Rattle.legends.specs.declared.refusal.Refusal.TheVariants.{Length, NoRoom, OutOfBounds}
 use Rattle.legends.specs.Fits.{Fit}
-use Rattle.legends.specs.Lending.{reaching}
 use Rattle.legends.specs.Answers.{fits, draw_answer, answer_to}
 use Rattle.legends.proofs.Lending.{cut_to, cut_all, all_fit, unfit, accepted_is}
 
-reach_within : (len room : ℕ) → reaching len room ≤ len
-reach_within len room = cond_both (leb len room) len room (λ k. k ≤ len) (λ e. omega arith) (λ e. omega (arith, leb-false len room e))
-
 -- a list that is long enough has room where enough of it is lent
-room_in : (n len room : ℕ) → n ≤ len → leb n (reaching len room) ≡ leb n room
-room_in n len room h = cond_both (leb len room) len room (λ k. leb n k ≡ leb n room) (λ e. let q = leb-true len room e in grind (arith, nat_tests)) (λ e. refl)
+room_in : (n len room : ℕ) → n ≤ len → leb n (min len room) ≡ leb n room
+room_in n len room h = grind (arith, nat_tests)
 
 both : (b : Bool) → (b && b) ≡ b
 both true = refl
 both false = refl
 
-lent_long : {X : Type 0} (xs : List X) (k room : ℕ) → k ≡ reaching (length xs) room → length (take k xs) ≡ k
-lent_long xs k room e = length-take-le k xs (omega (arith, reach_within (length xs) room))
+lent_long : {X : Type 0} (xs : List X) (k room : ℕ) → k ≡ min (length xs) room → length (take k xs) ≡ k
+lent_long xs k room e = let m = min-le_left (length xs) room in length-take-le k xs (omega arith)
 
 module _ (l : Legend) (signs mapped : List SignRow) (positions : List Position) (fitting : Fit l.len (length signs) (length mapped) (length positions))
-    (in_bounds : bounded mapped positions ≡ true) (lent room k : ℕ) (reached : k ≡ reaching l.len lent) where
+    (in_bounds : bounded mapped positions ≡ true) (lent room k : ℕ) (reached : k ≡ min l.len lent) where
   abbrev n : ℕ
   n = l.len
 
   abbrev roomed : Bool → Bool → Result (Unit {0}) Refusal
   roomed v w = cond v (cond w (Ok tt) (Err OutOfBounds)) (Err NoRoom)
 
-  module _ {P : Type 0} (items : List Item) (pens : List P) (ki kp : ℕ) (ri : ki ≡ reaching (length items) room) (rp : kp ≡ reaching (length pens) room)
+  module _ {P : Type 0} (items : List Item) (pens : List P) (ki kp : ℕ) (ri : ki ≡ min (length items) room) (rp : kp ≡ min (length pens) room)
       (li : n ≤ length items) (lp : n ≤ length pens) (r : Result (Unit {0}) Refusal)
       (answer : r ≡ draw_answer (length (take ki items)) (length (take kp pens)) (bounded (take k mapped) (take k positions)) (cut_to l signs mapped positions fitting k)) where
     has_room_lem : has_room n (length (take ki items)) (length (take kp pens)) ≡ leb n room
     has_room_lem =
         ap (λ (x : ℕ). leb n x && leb n (length (take kp pens))) (lent_long items ki room ri ∙ ri)
-        ∙ ap (λ (x : ℕ). leb n (reaching (length items) room) && leb n x) (lent_long pens kp room rp ∙ rp)
-        ∙ ap (λ b. b && leb n (reaching (length pens) room)) (room_in n (length items) room li)
+        ∙ ap (λ (x : ℕ). leb n (min (length items) room) && leb n x) (lent_long pens kp room rp ∙ rp)
+        ∙ ap (λ b. b && leb n (min (length pens) room)) (room_in n (length items) room li)
         ∙ ap (λ b. leb n room && b) (room_in n (length pens) room lp)
         ∙ both (leb n room)
 
-    answer_by : (v : Bool) → leb n lent ≡ v → k ≡ cond v n lent → r ≡ cond v (cond (leb n room) (Ok tt) (Err NoRoom)) (Err Length)
-    answer_by true t e =
+    answer_by : (v : Bool) → leb n lent ≡ v → r ≡ cond v (cond (leb n room) (Ok tt) (Err NoRoom)) (Err Length)
+    answer_by true t =
+        let e : k ≡ n = reached ∙ min-eq_left (leb-true n lent t) in
         let m = take_all k mapped (omega arith) in
         let p = take_all k positions (omega arith) in
         let b : bounded (take k mapped) (take k positions) ≡ true = ap (λ q. bounded q (take k positions)) m ∙ ap (bounded mapped) p ∙ in_bounds in
@@ -61,12 +59,13 @@ module _ (l : Legend) (signs mapped : List SignRow) (positions : List Position) 
         ∙ ap (λ u. cond u (roomed h (bounded (take k mapped) (take k positions))) (Err Length)) (ap fits (cut_all l signs mapped positions fitting k e) ∙ all_fit l signs mapped positions fitting)
         ∙ ap (roomed h) b
         ∙ ap (λ v. roomed v true) has_room_lem
-    answer_by false t e =
+    answer_by false t =
+        let short = min-le_right n lent in
         answer
         ∙ ap (λ u. cond u (roomed (has_room n (length (take ki items)) (length (take kp pens))) (bounded (take k mapped) (take k positions))) (Err Length)) (unfit l signs mapped positions fitting k (omega (arith, leb-false n lent t)))
 
     pub draw_answer_lem : r ≡ answer_to n (Draw lent room)
-    draw_answer_lem = answer_by (leb n lent) refl reached
+    draw_answer_lem = answer_by (leb n lent) refl
 
     accepted : is_ok r ≡ (leb n lent && leb n room)
     accepted = ap is_ok draw_answer_lem ∙ accepted_is n (Draw lent room)
@@ -75,7 +74,7 @@ module _ (l : Legend) (signs mapped : List SignRow) (positions : List Position) 
       items_by : (v : Bool) → is_ok r ≡ v → after ++ drop ki items ≡ cond v (drawn_over l.settings mapped positions items) items
       items_by true t =
           let yes = and_parts (leb n lent) (leb n room) (sym accepted ∙ t) in
-          let e : k ≡ n = reached ∙ ap (λ b. cond b n lent) yes.0 in
+          let e : k ≡ n = reached ∙ min-eq_left (leb-true n lent yes.0) in
           let m = take_all k mapped (omega arith) in
           let p = take_all k positions (omega arith) in
           let w = leb-true n room yes.1 in

@@ -9,3 +9,4 @@ pub mod Looks
 pub mod Drawings
 pub mod LentDraws
 pub mod OneMore
+pub mod SoFar

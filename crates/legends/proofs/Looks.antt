@@ -1,7 +1,8 @@
 -- A draw on the lists that calls have left is a look.
-use Rattle.std.proofs.Common.{◌≡◌, ℕ, Bool, true, false, cond, leb, List, length, take, drop, Ok, Err, Result, sym, refl, ap, ◌∙◌}
+use Rattle.std.proofs.Common.{◌≡◌, ℕ, ◌≤◌, Bool, true, false, cond, ◌&&◌, eqb, leb, List, ◌++◌, length, take, drop, Ok, Err, Result, sym, refl, ap, ◌∙◌, arith, eqb-true}
 use Rattle.std.proofs.lemmas.List.{take_at, drop_at}
-use Rattle.std.proofs.lemmas.Bool.{leb-true}
+use Rattle.std.proofs.lemmas.Bool.{and_parts, leb-true}
+use Rattle.std.proofs.lemmas.Bool.Decides.{nat_tests}
 use Rattle.signs.specs.declared.SignRow.{SignRow}
 use Rattle.faces.specs.Meaning.{FaceMeaning, Keeps}
 use Rattle.placement.specs.declared.Position.{Position}
@@ -18,11 +19,18 @@ use Rattle.legends.specs.declared.legend.Legend.{Legend}
 use Rattle.legends.specs.declared.refusal.Refusal.{Refusal}
 use Rattle.legends.specs.declared.refusal.Refusal.TheVariants.{Length, NoRoom, OutOfBounds}
 use Rattle.legends.specs.Book.{Book, book_after}
-use Rattle.legends.specs.Fits.{Fit}
+use Rattle.legends.specs.Fits.{Fit, fit}
 use Rattle.legends.specs.Leaves.{State, state, left_by}
 use Rattle.legends.specs.Answers.{fits, draw_answer, room_answer}
 use Rattle.legends.specs.Laws.{HistoriesStand}
 use Rattle.legends.specs.Promise.{Look, from_blank}
+
+of_fit : (n a b c : ℕ) → fit n a b c ≡ true → Fit n a b c
+of_fit n a b c e =
+    let p = and_parts (leb n 256) (eqb a n && (eqb b n && eqb c n)) e in
+    let q = and_parts (eqb a n) (eqb b n && eqb c n) p.1 in
+    let r = and_parts (eqb b n) (eqb c n) q.1 in
+    record { most = leb-true n 256 p.0; of_signs = eqb-true a n q.0; of_mapped = eqb-true b n r.0; of_positions = eqb-true c n r.1 }
 
 module _ (drawings : DrawingsStand) (s : Settings) (mapped : List SignRow) (positions : List Position) (items : List Item) (n : ℕ)
     (of_mapped : length mapped ≡ n) (of_positions : length positions ≡ n) where
@@ -45,8 +53,21 @@ module _ (stand : HistoriesStand) (f : FaceMeaning) (n : ℕ) (calls : List Call
       ap (λ (st : State). drawn st.legend.settings (side st.mapped st.positions)) (left ∙ stand.in_step f n calls)
       ∙ ap (drawn b.settings) (stand.drawings.side_by_side (route f b.settings b.signs))
 
+  -- with what stood past the signs before
+  pub drawn_past : length mapped ≡ n → (now items after : List Item) → after ≡ drawn_over l.settings mapped positions now → drop n now ≡ drop n items
+      → after ≡ from_blank f (book_after n calls) ++ drop n items
+  drawn_past of_mapped now items after e past =
+      let d : List Item = drawn l.settings (side mapped positions) in
+      e ∙ ap (λ k. d ++ drop k now) of_mapped ∙ ap (λ q. d ++ q) past ∙ ap (λ q. q ++ drop n items) drawn_left
+
   pub as_many : l.len ≡ n
   as_many = ap (λ (st : State). st.legend.len) (left ∙ stand.in_step f n calls)
+
+  -- such lists fit a legend that is not too long
+  pub fitted : n ≤ 256 → Fit l.len (length signs) (length mapped) (length positions)
+  fitted few =
+      let t : leb n 256 ≡ true = grind (arith, nat_tests) in
+      of_fit l.len (length signs) (length mapped) (length positions) (ap fits left ∙ stand.fitting f n calls ∙ t)
 
   pub looks : Keeps f → Fit l.len (length signs) (length mapped) (length positions) → (items after : List Item) → after ≡ drawn_over l.settings mapped positions items → Look f n calls after
   looks keeps fit items after e =

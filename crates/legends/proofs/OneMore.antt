@@ -42,9 +42,9 @@ module _ (drawings : DrawingsStand) (l : Legend) (signs mapped : List SignRow) (
   past (Turn lent settings) = refl
   past (Draw lent room) = rest_stays drawings l.settings mapped positions items n (fit.of_mapped ∙ same) (fit.of_positions ∙ same)
 
-  pub past_stays : (c : Call) (accepted : Bool) → drop n (cond accepted (drawn_by c (state l signs mapped positions) items) items) ≡ drop n items
-  past_stays c true = past c
-  past_stays c false = refl
+  pub past_stays : (c : Call) (accepted : Bool) (after : List Item) → after ≡ cond accepted (drawn_by c (state l signs mapped positions) items) items → drop n after ≡ drop n items
+  past_stays c true after e = ap (drop n) e ∙ past c
+  past_stays c false after e = ap (drop n) e
 
 room_true : (n items pens : ℕ) → n ≤ items → n ≤ pens → has_room n items pens ≡ true
 room_true n items pens a b = grind (arith, nat_tests)

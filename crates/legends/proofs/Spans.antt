@@ -1,21 +1,45 @@
 -- The two ends of a span: how the search for the first one goes, and that a line may be cut at both.
-use Rattle.std.proofs.Common.{◌≡◌, ℕ, zero, suc, ◌+◌, ◌-◌, ◌<◌, ◌≤◌, Bool, true, false, cond, ◌⊎◌, List, [], ◌∷◌, length, drop, sym, refl, ap, ◌∙◌, inl, inr, arith, length-drop}
-use Rattle.std.proofs.lemmas.List.{drop_more, drop-drop}
+use Rattle.std.proofs.Common.{◌≡◌, ℕ, nat_eq, zero, suc, ◌+◌, ◌<◌, ◌≤◌, Bool, true, false, not, cond, ◌⊎◌, List, [], ◌∷◌, length, take, drop, sym, refl, ap, ◌∙◌, inl, inr, arith, length-drop, eqb-true}
+use borrow.Author.Tests.{eqb-false}
+use Rattle.std.proofs.lemmas.List.{get_or-take, drop_more, drop-drop}
 use Rattle.signs.specs.declared.SignRow.{SignRow}
 use Rattle.signs.specs.Rows.{is_mark, read_row}
 use Rattle.placement.specs.Marks.{marks}
 use Rattle.placement.specs.ByGroups.{Begins}
-use Rattle.legends.specs.Span.{no_row, is_mark_at, end_before, end_after}
+use Rattle.drawings.specs.Pens.{no_row}
+use Rattle.legends.specs.Span.{is_mark_at, end_before, end_after}
 
-before_step : (rows : List SignRow) (k : ℕ) → 0 < k → end_before rows k ≡ cond (is_mark_at rows (k - 1)) (end_before rows (k - 1)) (k - 1)
-before_step rows zero h = absurd (omega arith)
-before_step rows (suc k) h = let e : suc k - 1 ≡ k = omega arith in rw e
+-- what stands at the place or after it does not matter
+pub before_front : (rows : List SignRow) (place n : ℕ) → n ≤ place → end_before (take place rows) n ≡ end_before rows n
+before_front rows place zero h = refl
+before_front rows place (suc n) h =
+    let r = get_or-take place rows n no_row (omega arith) in
+    ap (λ t. cond (is_mark (read_row t)) (end_before (take place rows) n) n) r ∙ ap (λ k. cond (is_mark_at rows n) k n) (before_front rows place n (omega arith))
 
-pub before_mark : (rows : List SignRow) (k : ℕ) → 0 < k → true ≡ is_mark_at rows (k - 1) → end_before rows (k - 1) ≡ end_before rows k
-before_mark rows k h e = sym (before_step rows k h ∙ ap (λ b. cond b (end_before rows (k - 1)) (k - 1)) (sym e))
+-- where all that stands before a place are marks, or all after the first end
+marked : (b : Bool) → not b ≡ false → b ≡ true
+marked true e = refl
+marked false e = sym e
 
-pub before_base : (rows : List SignRow) (k : ℕ) → 0 < k → false ≡ is_mark_at rows (k - 1) → k - 1 ≡ end_before rows k
-before_base rows k h e = sym (before_step rows k h ∙ ap (λ b. cond b (end_before rows (k - 1)) (k - 1)) (sym e))
+unmarked : (b : Bool) → not b ≡ true → b ≡ false
+unmarked true e = sym e
+unmarked false e = refl
+
+pub before_none : (rows : List SignRow) (n : ℕ) → ((k : ℕ) → k < n → not (is_mark_at rows k) ≡ false) → end_before rows n ≡ 0
+before_none rows zero all = refl
+before_none rows (suc n) all =
+    ap (λ b. cond b (end_before rows n) n) (marked (is_mark_at rows n) (all n (omega arith))) ∙ before_none rows n (λ k h. all k (omega arith))
+
+pub before_last : (rows : List SignRow) (n i : ℕ) → i < n → not (is_mark_at rows i) ≡ true → ((k : ℕ) → i + 1 ≤ k → k < n → not (is_mark_at rows k) ≡ false) → end_before rows n ≡ i
+before_last rows zero i h e after = absurd (omega arith)
+before_last rows (suc n) i h e after = way (nat_eq i n) refl (λ z. before_last rows n i z e (λ k lo hi. after k lo (omega arith)))
+  where
+    way : (b : Bool) → nat_eq i n ≡ b → (i < n → end_before rows n ≡ i) → end_before rows (suc n) ≡ i
+    way true q rest = let z = eqb-true i n q in ap (λ b. cond b (end_before rows n) n) (ap (is_mark_at rows) (sym z) ∙ unmarked (is_mark_at rows i) e) ∙ sym z
+    way false q rest =
+        let ne = eqb-false i n q in
+        let z : i < n = omega arith in
+        ap (λ b. cond b (end_before rows n) n) (marked (is_mark_at rows n) (after n (omega arith) (omega arith))) ∙ rest z
 
 pub before_le : (rows : List SignRow) (k : ℕ) → end_before rows k ≤ k
 before_le rows zero = omega arith

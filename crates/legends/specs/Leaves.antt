@@ -1,5 +1,5 @@
 -- What each call leaves of a legend and its three lists: the signs put, the signs mapped, and their positions.
-use Rattle.std.specs.Prelude.{◌≡◌, ℕ, Bool, cond, List, [], ◌∷◌, ◌++◌, take, drop, replicate, Ok, Err, Result, slice_set}
+use Rattle.std.specs.Prelude.{◌≡◌, ℕ, Bool, cond, List, [], ◌∷◌, ◌++◌, take, drop, replicate, slice_set}
 use Rattle.std.specs.List.{between}
 use Rattle.signs.specs.declared.SignRow.{SignRow}
 use Rattle.faces.specs.Meaning.{FaceMeaning}
@@ -10,7 +10,6 @@ use Rattle.placement.specs.Route.{route}
 use Rattle.drawings.specs.declared.Item.{Item}
 use Rattle.drawings.specs.Drawing.{drawn_over}
 use Rattle.legends.specs.declared.legend.Legend.{Legend}
-use Rattle.legends.specs.declared.refusal.Refusal.{Refusal}
 use Rattle.legends.specs.declared.call.Call.{Call}
 use Rattle.legends.specs.declared.call.Call.TheVariants.{Put, Turn, Draw}
 use Rattle.legends.specs.Book.{blank_sign, plain, is_accepted}
@@ -27,19 +26,14 @@ abbrev pub state : Legend → List SignRow → List SignRow → List Position �
 state legend signs mapped positions = record { legend = legend; signs = signs; mapped = mapped; positions = positions }
 
 -- The three lists alone.
-abbrev pub Lists : Type 0
-Lists = List SignRow × List SignRow × List Position
+abbrev pub ThreeLists : Type 0
+ThreeLists = List SignRow × List SignRow × List Position
 
-abbrev pub lists : List SignRow → List SignRow → List Position → Lists
+abbrev pub lists : List SignRow → List SignRow → List Position → ThreeLists
 lists signs mapped positions = (signs, mapped, positions)
 
-abbrev pub lists_of : State → Lists
+abbrev pub lists_of : State → ThreeLists
 lists_of st = lists st.signs st.mapped st.positions
-
--- Where a legend was made, it and its lists are a state.
-abbrev pub Made : Result Legend Refusal → List SignRow → List SignRow → List Position → State → Type 0
-Made (Ok legend) signs mapped positions st = state legend signs mapped positions ≡ st
-Made (Err e) signs mapped positions st = Unit {0}
 
 -- A call that is accepted leaves what it makes of the state; one that is refused leaves the state as it was.
 abbrev pub left_if : Bool → (State → State) → State → State

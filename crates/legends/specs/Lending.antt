@@ -1,5 +1,9 @@
--- How far a part of a list reaches: as far as it is lent, and no further than the list.
-use Rattle.std.specs.Prelude.{ℕ, cond, nat_le}
+-- How much of each list a call is lent.
+use Rattle.std.specs.Prelude.{ℕ}
+use Rattle.legends.specs.declared.call.Call.{Call}
+use Rattle.legends.specs.declared.call.Call.TheVariants.{Put, Turn, Draw}
 
-abbrev pub reaching : ℕ → ℕ → ℕ
-reaching len lent = cond (nat_le len lent) len lent
+abbrev pub lent_of : Call → ℕ
+lent_of (Put lent place row) = lent
+lent_of (Turn lent settings) = lent
+lent_of (Draw lent room) = lent

@@ -4,6 +4,7 @@ pub mod Book
 pub mod Last
 pub mod Span
 pub mod Leaves
+pub mod Lent
 pub mod Answers
 pub mod Lending
 pub mod Promise

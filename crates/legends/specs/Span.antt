@@ -4,11 +4,9 @@ use Rattle.std.specs.Prelude.{ℕ, zero, suc, ◌+◌, Bool, cond, List, slice_i
 use Rattle.signs.specs.declared.SignRow.{SignRow}
 use Rattle.signs.specs.Rows.{is_mark, read_row}
 use Rattle.placement.specs.Marks.{base_after}
+use Rattle.drawings.specs.Pens.{no_row}
 
--- What is read past a list's end: never looked at.
-abbrev pub no_row : SignRow
-no_row = record { code = 0; unicode_props = 0; glyph_props = 0; lig_props = 0 }
-
+-- Past the end of a list nothing is looked at.
 abbrev pub is_mark_at : List SignRow → ℕ → Bool
 is_mark_at rows place = is_mark (read_row (slice_index_or rows place no_row))
 

@@ -1,7 +1,11 @@
 // What may be asked of a legend that stands.
+ghost use Rattle.std.specs.Prelude.{◌≡◌};
+ghost use Rattle.legends.specs.Lending.{lent_of};
+
 use placement::Settings;
 use signs::SignRow;
 
+// An enum and a match on it: calls are data, lent by the caller as a list.
 // Each call is lent that many entries of each of the legend's lists, or all where there are fewer.
 #[derive(Clone, Copy)]
 pub enum Call {
@@ -19,4 +23,14 @@ pub enum Call {
         lent: usize,
         room: usize,
     },
+}
+
+impl Call {
+    pub(crate) fn lent(self) -> usize
+        ensures { result ≡ lent_of self }
+    {
+        match self {
+            Call::Put { lent, .. } | Call::Turn { lent, .. } | Call::Draw { lent, .. } => lent,
+        }
+    }
 }

@@ -3,23 +3,24 @@ ghost use Rattle.std.specs.Prelude.{◌≡◌, ◌≤◌, true, ◌++◌, length
 ghost use Rattle.legends.specs.Answers.{answer_to, look_answer};
 ghost use Rattle.legends.specs.Book.{book_after};
 ghost use Rattle.legends.specs.Fits.{Fit};
-ghost use Rattle.legends.specs.Leaves.{drawn_by, leaves, left_by, lists, lists_of, state};
+ghost use Rattle.legends.specs.Leaves.{drawn_by, leaves, left_by, lists_of, state};
+ghost use Rattle.legends.specs.Lent.{SameLists, three_lists};
 ghost use Rattle.legends.specs.Promise.{Look, from_blank};
-ghost use Rattle.drawings.specs.DrawAnswers.{PensAfter};
+ghost use Rattle.drawings.specs.DrawAnswers.{PensAfter, SameRoom};
 ghost use Rattle.placement.specs.Bounded.{bounded};
 
 use crate::call::Call;
 use crate::laws::histories_stand;
 use crate::legend::Legend;
-use crate::legend::calls::fitting;
-use crate::lent::{draw_lent, put_lent, turn_lent};
+use crate::lists::{Lists, View};
 use crate::refusal::Refusal;
-use drawings::{Item, Pen};
+use drawings::{Item, Pen, Room};
 use faces::Face;
 use placement::Position;
 use signs::SignRow;
 
-// Carries out one call.
+// Carries out one call, which is lent a part of each list, as a caller may hand too little.
+// It takes slices: fields of a lent struct, split and made into a struct again, are not covered by the check.
 fn obey<F: Face>(
     call: Call,
     legend: &mut Legend,
@@ -37,15 +38,31 @@ fn obey<F: Face>(
     ensures lists { state legend.new signs.new mapped.new positions.new ≡ leaves (F.meaning face.now) call (state legend.old signs.old mapped.old positions.old) }
     ensures items { items.new ≡ (if is_ok result then drawn_by call (state legend.old signs.old mapped.old positions.old) items.old else items.old) }
 {
+    let end = legend.len.min(call.lent());
+    let (signs, _) = signs.split_at_mut(end);
+    let (mapped, _) = mapped.split_at_mut(end);
+    let (positions, _) = positions.split_at_mut(end);
     match call {
-        Call::Put { lent, place, row } => {
-            put_lent(legend, face, signs, mapped, positions, lent, place, row)
+        Call::Put { place, row, .. } => {
+            let mut lists = Lists {
+                signs,
+                mapped,
+                positions,
+            };
+            legend.put(face, &mut lists, place, row)
         }
-        Call::Turn { lent, settings } => {
-            turn_lent(legend, face, signs, mapped, positions, lent, settings)
-        }
-        Call::Draw { lent, room } => {
-            draw_lent(legend, signs, mapped, positions, items, pens, lent, room)
+        Call::Turn { settings, .. } => legend.turn(face, signs, mapped, positions, settings),
+        Call::Draw { room, .. } => {
+            let items_end = items.len().min(room);
+            let pens_end = pens.len().min(room);
+            let (items, _) = items.split_at_mut(items_end);
+            let (pens, _) = pens.split_at_mut(pens_end);
+            let view = View {
+                signs,
+                mapped,
+                positions,
+            };
+            legend.draw(&view, &mut Room { items, pens })
         }
     }
 }
@@ -55,38 +72,37 @@ pub fn look_after<F: Face>(
     face: &F,
     len: usize,
     calls: &[Call],
-    signs: &mut [SignRow],
-    mapped: &mut [SignRow],
-    positions: &mut [Position],
-    items: &mut [Item],
-    pens: &mut [Pen],
+    lists: &mut Lists,
+    room: &mut Room,
 ) -> Result<Legend, Refusal>
-    ensures answer { result ≡ look_answer len calls.now (length signs.old) (length mapped.old) (length positions.old) (length items.old) (length pens.old) }
-    ensures lists { lists signs.new mapped.new positions.new ≡ (if is_ok result then lists_of (left_by (F.meaning face.now) len calls.now) else lists signs.old mapped.old positions.old) }
-    ensures items { items.new ≡ (if is_ok result then from_blank (F.meaning face.now) (book_after len calls.now) ++ drop len items.old else items.old) }
-    ensures pens { PensAfter (is_ok result) pens.old pens.new }
-    ensures look { is_ok result ≡ true → Look (F.meaning face.now) len calls.now items.new }
+    ensures answer { result ≡ look_answer len calls.now (length lists.old.signs.now) (length lists.old.mapped.now) (length lists.old.positions.now) (length room.old.items.now) (length room.old.pens.now) }
+    ensures lists { three_lists lists.new ≡ (if is_ok result then lists_of (left_by (F.meaning face.now) len calls.now) else three_lists lists.old) }
+    ensures same { SameLists lists.old lists.new }
+    ensures items { room.new.items.now ≡ (if is_ok result then from_blank (F.meaning face.now) (book_after len calls.now) ++ drop len room.old.items.now else room.old.items.now) }
+    ensures pens { PensAfter (is_ok result) room.old.pens.now room.new.pens.now }
+    ensures same_room { SameRoom room.old room.new }
+    ensures look { is_ok result ≡ true → Look (F.meaning face.now) len calls.now room.new.items.now }
 {
-    if !fitting(len, signs.len(), mapped.len(), positions.len()) {
+    if !lists.fit(len) {
         return Err(Refusal::Length);
     }
-    if items.len() < len || pens.len() < len {
+    if room.items.len() < len || room.pens.len() < len {
         return Err(Refusal::NoRoom);
     }
     histories_stand();
-    let mut legend = Legend::make(face, len, signs, mapped, positions)?;
+    let mut legend = Legend::make(face, len, lists)?;
     for call in calls {
         let _ = obey(
             *call,
             &mut legend,
             face,
-            signs,
-            mapped,
-            positions,
-            items,
-            pens,
+            lists.signs,
+            lists.mapped,
+            lists.positions,
+            room.items,
+            room.pens,
         );
     }
-    legend.draw(signs, mapped, positions, items, pens)?;
+    legend.draw(&lists.view(), room)?;
     Ok(legend)
 }

@@ -9,7 +9,7 @@ use placement::{bounds_stand, lines_stand};
 pub fn histories_stand()
     ensures { HistoriesStand }
 {
-    let _ = lines_stand();
+    lines_stand();
     bounds_stand();
     drawings_stand();
 }

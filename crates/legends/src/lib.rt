@@ -5,7 +5,7 @@ mod call;
 mod histories;
 mod laws;
 mod legend;
-mod lent;
+mod lists;
 mod refusal;
 mod span;
 
@@ -13,4 +13,5 @@ pub use call::Call;
 pub use histories::look_after;
 pub use laws::{histories_stand, worked_legends_stand};
 pub use legend::Legend;
+pub use lists::{Lists, View};
 pub use refusal::Refusal;

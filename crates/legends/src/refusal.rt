@@ -5,26 +5,21 @@ ghost use Rattle.legends.specs.Refusals.{from_drawing, from_placement, number_of
 #[derive(Clone, Copy, PartialEq, Eq, Debug)]
 pub enum Refusal {
     // More signs than a legend may have, or lists that are not as long as the legend.
-    Length,
+    Length = 13,
     // A place that the legend does not have.
-    NoPlace,
+    NoPlace = 14,
     // A drawing or pen list that is shorter than the legend.
-    NoRoom,
+    NoRoom = 15,
     // A glyph, an advance or an offset in the lists beyond what a line may hold.
-    OutOfBounds,
+    OutOfBounds = 16,
 }
 
-impl Refusal {
-    // The number by which callers know it.
-    pub fn number(self) -> u8
-        ensures { result ≡ number_of self }
-    {
-        match self {
-            Refusal::Length => 13,
-            Refusal::NoPlace => 14,
-            Refusal::NoRoom => 15,
-            Refusal::OutOfBounds => 16,
-        }
+// The number by which callers know it.
+impl From<Refusal> for u8 {
+    ghost from_gives = { λ e n. n ≡ number_of e };
+
+    fn from(refusal: Refusal) -> u8 {
+        refusal as u8
     }
 }
 

@@ -1,21 +1,26 @@
 // The span of a place: the part of a line that a change at the place can reach.
 ghost use Rattle.std.specs.Prelude.{◌≡◌, ◌<◌, ◌≤◌, length};
+ghost use Rattle.signs.specs.Rows.{is_mark, read_row};
 ghost use Rattle.legends.specs.Span.{end_after, end_before, span_of};
 
 use placement::next_base;
 use signs::{Sign, SignRow};
+
+fn is_mark(row: &SignRow) -> bool
+    ensures { result ≡ is_mark (read_row row.now) }
+{
+    Sign::read(*row).is_mark()
+}
 
 // The nearest sign before a place that is no mark, or 0.
 fn end_before(rows: &[SignRow], place: usize) -> usize
     requires { place < length rows.now }
     ensures { result ≡ end_before rows.now place }
 {
-    for k in (0..place).rev() {
-        if !Sign::read(rows[k]).is_mark() {
-            return k;
-        }
+    match rows[..place].iter().rposition(|row| !is_mark(row)) {
+        Some(k) => k,
+        None => 0,
     }
-    0
 }
 
 // The nearest sign after a place that is no mark, or the length.

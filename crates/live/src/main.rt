@@ -4,11 +4,12 @@
 mod font;
 mod shown;
 
-use anyhow::anyhow;
+use anyhow::Context;
 use drawings::Item;
 use shown::Shown;
 use shown::telling::on_the_panel;
 
+// One line for each item; it is printed here alone, so an impl Display of a type of its own would be no plainer.
 fn show(rt: &impl Print, words: &str, items: &[Item]) -> anyhow::Result<()> {
     println!(rt; "{words}")?;
     for item in items {
@@ -24,31 +25,29 @@ fn tell(rt: &impl Print, shown: &Shown) -> anyhow::Result<()> {
     println!(rt;
         "Right and up from where the pen starts, 1000 units to the em. Both bars are glyph 2."
     )?;
-    show(rt, "The legend is made:", &shown.story.blank)?;
-    show(rt, "The gate's letter is put:", &shown.story.letter)?;
-    show(
-        rt,
-        "The gate is locked, the bar lies over:",
-        &shown.story.locked,
-    )?;
-    show(
-        rt,
-        "The gate is closed, the bar lies beneath:",
-        &shown.story.closed,
-    )?;
-    show(rt, "The same, drawn from blank:", &shown.from_blank)?;
-    show(
-        rt,
-        "The legend is turned to run from right to left:",
-        &shown.story.turned,
-    )
+    let looks = [
+        ("The legend is made:", shown.story.blank),
+        ("The gate's letter is put:", shown.story.letter),
+        ("The gate is locked, the bar lies over:", shown.story.locked),
+        (
+            "The gate is closed, the bar lies beneath:",
+            shown.story.closed,
+        ),
+        ("The same, drawn from blank:", shown.from_blank),
+        (
+            "The legend is turned to run from right to left:",
+            shown.story.turned,
+        ),
+    ];
+    for (words, items) in &looks {
+        show(rt, words, items)?;
+    }
+    Ok(())
 }
 
 fn run(rt: &impl Print) -> anyhow::Result<()> {
-    match on_the_panel() {
-        Some(shown) => tell(rt, &shown),
-        None => Err(anyhow!("the panel font is refused")),
-    }
+    let shown = on_the_panel().context("the panel font is refused")?;
+    tell(rt, &shown)
 }
 
 fn main(rt: HostRuntime) -> anyhow::Result<()> {

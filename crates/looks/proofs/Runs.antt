@@ -43,9 +43,6 @@ module _ (f : FaceMeaning) (s : Settings) (b : Base) where
   abbrev pub up : Walk → SignRow → Edges → ℤ
   up w m e = (placed (into w m).run e (gap_of f) (row_class m) s.direction).y
 
-  pub step_zero : (w : Walk) (m : SignRow) → eqb (row_class m) 0 ≡ true → (step f s b w m).run ≡ w.run
-  step_zero w m h = ap (λ v. v.run) (next_zero f s b w (cell_of f s m) h)
-
   step_settled : (w : Walk) (m : SignRow) (o : Option Edges) → eqb (row_class m) 0 ≡ false → measure f m ≡ o → step f s b w m ≡ settled_walk f s (into w m) (row_class m) o
   step_settled w m o h eo = next_other f s b w (cell_of f s m) h ∙ ap (settled_walk f s (into w m) (row_class m)) eo
 

@@ -2,11 +2,11 @@
 use Rattle.std.specs.Prelude.{Option}
 use Rattle.signs.specs.declared.SignRow.{SignRow}
 use Rattle.faces.specs.Meaning.{FaceMeaning, Edges}
-use Rattle.placement.specs.Walks.{ink, ground}
+use Rattle.placement.specs.Walks.{ink, footing}
 use Rattle.looks.specs.Signs.{glyph_of}
 
 abbrev pub measure : FaceMeaning → SignRow → Option Edges
 measure f r = ink (f.bounds (glyph_of f r))
 
 abbrev pub measure_base : FaceMeaning → SignRow → Option Edges
-measure_base f r = ground (f.bounds (glyph_of f r))
+measure_base f r = footing (f.bounds (glyph_of f r))

@@ -7,24 +7,20 @@ use placement::{lines_stand, placing_stands};
 use signs::signs_stand;
 
 // What every look keeps: each sign is shown, marks stand clear and centred ones in the middle.
-pub fn look_stands() -> bool
+pub fn look_stands()
     ensures { LooksStand }
 {
-    let _ = signs_stand();
-    let _ = lines_stand();
-    placing_stands()
+    signs_stand();
+    lines_stand();
+    placing_stands();
 }
 
 // Worked looks.
-pub fn worked_looks_stand() -> bool
+pub fn worked_looks_stand()
     ensures { WorkedLooks }
-{
-    true
-}
+{}
 
 // The worked signs of the panel, in one list.
-pub fn worked_signs_stand() -> bool
+pub fn worked_signs_stand()
     ensures { WorkedSigns }
-{
-    true
-}
+{}

@@ -31,15 +31,9 @@ pub struct GateSign {
 pub fn gate_sign<F: Face>(face: &F, letter: u32, bar: u32, class: u8) -> Option<GateSign>
     ensures { result ≡ sign_of (F.meaning face.now) letter bar class }
 {
-    let Some(letter) = face.glyph(letter) else {
-        return None;
-    };
-    let Some(bar) = face.glyph(bar) else {
-        return None;
-    };
-    let Some(placed) = position_one_mark(face, letter, bar, class, Direction::LeftToRight) else {
-        return None;
-    };
+    let letter = face.glyph(letter)?;
+    let bar = face.glyph(bar)?;
+    let placed = position_one_mark(face, letter, bar, class, Direction::LeftToRight)?;
     Some(GateSign {
         letter,
         bar,

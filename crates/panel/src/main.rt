@@ -9,9 +9,7 @@ use gate::{GateSign, closed_and_locked};
 use row::show_row;
 
 fn show(rt: &impl Print, state: &str, side: &str, sign: Option<GateSign>) -> anyhow::Result<()> {
-    let Some(sign) = sign else {
-        return Err(anyhow!("the panel font lacks a glyph or a box of this sign"));
-    };
+    let sign = sign.ok_or_else(|| anyhow!("the panel font lacks a glyph or a box of this sign"))?;
     println!(rt; "Gate A is {state}: the bar lies {side} the letter.")?;
     println!(rt; "  letter: glyph {} at 0, 0", sign.letter)?;
     println!(rt; "  bar: glyph {} at {}, {}", sign.bar, sign.x, sign.y)?;
@@ -19,15 +17,11 @@ fn show(rt: &impl Print, state: &str, side: &str, sign: Option<GateSign>) -> any
 }
 
 fn run(rt: &impl Print) -> anyhow::Result<()> {
-    match closed_and_locked() {
-        Ok((closed, locked)) => {
-            println!(rt; "Right and up from the letter's origin, 1000 units to the em.")?;
-            show(rt, "closed", "beneath", closed)?;
-            show(rt, "locked", "over", locked)?;
-            show_row(rt)
-        }
-        Err(_) => Err(anyhow!("the panel font is refused")),
-    }
+    let (closed, locked) = closed_and_locked().map_err(|_| anyhow!("the panel font is refused"))?;
+    println!(rt; "Right and up from the letter's origin, 1000 units to the em.")?;
+    show(rt, "closed", "beneath", closed)?;
+    show(rt, "locked", "over", locked)?;
+    show_row(rt)
 }
 
 fn main(rt: HostRuntime) -> anyhow::Result<()> {

@@ -1,15 +1,8 @@
 // A whole line of a panel: gate A closed, gate B locked, gate C open.
 use anyhow::anyhow;
 use faces::{CodeRecord, GlyphRecord, RecordFace};
-use placement::{Direction, Position, Settings, route_line};
+use placement::{Position, Settings, route_line};
 use signs::SignRow;
-
-const AT_ORIGIN: Position = Position {
-    x_advance: 0,
-    y_advance: 0,
-    x_offset: 0,
-    y_offset: 0,
-};
 
 fn boxed(glyph: u16, across: u16, right: i16, top: i16) -> GlyphRecord {
     GlyphRecord {
@@ -29,8 +22,7 @@ fn letter(code: u32) -> SignRow {
     SignRow {
         code,
         unicode_props: 9,
-        glyph_props: 0,
-        lig_props: 0,
+        ..SignRow::default()
     }
 }
 
@@ -39,8 +31,7 @@ fn bar(code: u32, class: u16) -> SignRow {
     SignRow {
         code,
         unicode_props: (class & 0xff) * 256 + 12,
-        glyph_props: 0,
-        lig_props: 0,
+        ..SignRow::default()
     }
 }
 
@@ -88,9 +79,9 @@ pub fn show_row(rt: &impl Print) -> anyhow::Result<()> {
             glyph: 2,
         },
     ];
-    let Ok(face) = RecordFace::new(1000, &glyphs, &codes) else {
-        return Err(anyhow!("the panel font is refused"));
-    };
+    let face = RecordFace::new(1000, &glyphs, &codes).map_err(|_| anyhow!(
+        "the panel font is refused"
+    ))?;
     let mut rows = [
         letter(0x41),
         bar(0x332, 220),
@@ -98,15 +89,10 @@ pub fn show_row(rt: &impl Print) -> anyhow::Result<()> {
         bar(0x305, 230),
         letter(0x43),
     ];
-    let mut positions = [AT_ORIGIN; 5];
-    let settings = Settings {
-        direction: Direction::LeftToRight,
-        script: 0,
-        adjust: false,
-    };
-    if route_line(&face, settings, &mut rows, &mut positions).is_err() {
-        return Err(anyhow!("the line is refused"));
-    }
+    let mut positions = [Position::default(); 5];
+    route_line(&face, Settings::default(), &mut rows, &mut positions).map_err(|_| anyhow!(
+        "the line is refused"
+    ))?;
     println!(rt; "Gates A, B and C in a row, A closed, B locked and C open:")?;
     show_signs(rt, &rows, &positions)
 }

@@ -1,6 +1,6 @@
 -- Which component a mark belongs to.
 use Rattle.std.proofs.Common.{◌≡◌, ℕ, ◌%◌, ◌<◌, ◌≤◌, Bool, ◌&&◌, ltb, sym, ap, ◌∙◌, ⊎_elim, arith}
-use Rattle.std.proofs.lemmas.Bool.{cases_Bool, cond_both, cond-true, cond-false, ltb-true, eq-eqb, ne_eqb}
+use Rattle.std.proofs.lemmas.Bool.{cases_Bool, cond_both, cond-false, ltb-true, ne_eqb}
 use Rattle.signs.specs.declared.SignRow.{SignRow}
 use Rattle.signs.specs.Rows.{lig_num_comps, is_lig_base, is_ligature}
 use Rattle.placement.specs.declared.extents.Extents.{Extents}
@@ -20,9 +20,6 @@ several b w m known other =
     ⊎_elim (λ h. ltb-true _ _ h) (λ h. absurd (other (known h ∙ sym (cond-false _ _ _ h)))) (cases_Bool (ltb 1 (lig_num_comps b.row)))
 
 module _ (s : Settings) (b : Base) (k : ℕ) (w : Walk) where
-  pub same_component : w.component ≡ k → w ≡ to_component s b k w
-  same_component e = sym (cond-true _ _ _ (eq-eqb w.component k e))
-
   pub other_component : (w.component ≡ k → ⊥) → walk w.x w.y k 0 (share (is_text_ltr s) (lig_num_comps b.row) k b.extents) w.run ≡ to_component s b k w
   other_component ne = sym (cond-false _ _ _ (ne_eqb w.component k ne))
 

@@ -1,11 +1,10 @@
 -- Lists that pass the tests of a line are those that hold what a placement needs.
 use Rattle.std.proofs.Common.{◌≡◌, ℕ, ◌≤◌, Bool, true, List, [], ◌∷◌, ℤ, pos, neg_ℤ, refl, arith}
 use lib.Signed.{le_z}
-use Rattle.std.specs.List.{AllByRecursion}
+use Rattle.std.specs.List.{AllByRecursion, list_all}
 use Rattle.std.proofs.lemmas.Int.{ints}
 use Rattle.std.proofs.lemmas.Bool.{and_parts, and_from, leb-true, le-leb}
 use Rattle.signs.specs.declared.SignRow.{SignRow}
-use Rattle.faces.specs.Keys.{every}
 use Rattle.placement.specs.declared.position.Position.{Position}
 use Rattle.placement.specs.Bounded.{inside, bounded_row, bounded_position, bounded}
 use Rattle.placement.specs.Room.{Within, Light, AllLight, AllGlyphs}
@@ -22,20 +21,20 @@ light p h =
     let c = and_parts (inside 40000000 p.x_offset) _ b.1 in
     record { x_advance = inside_within 65535 _ a.0; y_advance = inside_within 65535 _ b.0; x_offset = inside_within 40000000 _ c.0; y_offset = inside_within 40000000 _ c.1 }
 
-all_light : (ps : List Position) → every bounded_position ps ≡ true → AllLight ps
+all_light : (ps : List Position) → list_all bounded_position ps ≡ true → AllLight ps
 all_light [] h = tt
-all_light (p ∷ ps) h = let a = and_parts (bounded_position p) (every bounded_position ps) h in (light p a.0, all_light ps a.1)
+all_light (p ∷ ps) h = let a = and_parts (bounded_position p) (list_all bounded_position ps) h in (light p a.0, all_light ps a.1)
 
-all_glyphs : (rs : List SignRow) → every bounded_row rs ≡ true → AllGlyphs rs
+all_glyphs : (rs : List SignRow) → list_all bounded_row rs ≡ true → AllGlyphs rs
 all_glyphs [] h = tt
-all_glyphs (r ∷ rs) h = let a = and_parts (bounded_row r) (every bounded_row rs) h in (leb-true _ _ a.0, all_glyphs rs a.1)
+all_glyphs (r ∷ rs) h = let a = and_parts (bounded_row r) (list_all bounded_row rs) h in (leb-true _ _ a.0, all_glyphs rs a.1)
 
 module _ (rs : List SignRow) (ps : List Position) (h : bounded rs ps ≡ true) where
   pub bounded_glyphs : AllGlyphs rs
-  bounded_glyphs = all_glyphs rs (and_parts (every bounded_row rs) (every bounded_position ps) h).0
+  bounded_glyphs = all_glyphs rs (and_parts (list_all bounded_row rs) (list_all bounded_position ps) h).0
 
   pub bounded_light : AllLight ps
-  bounded_light = all_light ps (and_parts (every bounded_row rs) (every bounded_position ps) h).1
+  bounded_light = all_light ps (and_parts (list_all bounded_row rs) (list_all bounded_position ps) h).1
 
 -- and the other way round
 inside_from : (n : ℕ) (z : ℤ) → Within n z → inside n z ≡ true
@@ -44,7 +43,7 @@ inside_from n z w = and_from (le_z (neg_ℤ (pos n)) z) (le_z z (pos n)) (grind 
 from_light : (p : Position) → Light p → bounded_position p ≡ true
 from_light p l = and_from _ _ (inside_from 65535 _ l.x_advance) (and_from _ _ (inside_from 65535 _ l.y_advance) (and_from _ _ (inside_from 40000000 _ l.x_offset) (inside_from 40000000 _ l.y_offset)))
 
-all_from : {X : Type 0} (test : X → Bool) (P : X → Type 0) → ((x : X) → P x → test x ≡ true) → (xs : List X) → AllByRecursion P xs → every test xs ≡ true
+all_from : {X : Type 0} (test : X → Bool) (P : X → Type 0) → ((x : X) → P x → test x ≡ true) → (xs : List X) → AllByRecursion P xs → list_all test xs ≡ true
 all_from test P from [] a = refl
 all_from test P from (x ∷ xs) a = and_from _ _ (from x a.0) (all_from test P from xs a.1)
 

@@ -12,7 +12,7 @@ use Rattle.placement.specs.declared.settings.Settings.{Settings}
 use Rattle.placement.specs.declared.walk.Walk.{Walk}
 use Rattle.placement.specs.Lines.{Cell, rows_of}
 use Rattle.placement.specs.Mapped.{map_row}
-use Rattle.placement.specs.Walks.{Base, ground, next, out, walked}
+use Rattle.placement.specs.Walks.{Base, footing, next, out, walked}
 use Rattle.placement.specs.Placements.{Standing, Leading, Bare, Along, zeroed, opened, out_by, next_by, flow, placed_line, around}
 use Rattle.placement.specs.Route.{cell_of}
 use Rattle.placement.specs.ByGroups.{IsMark, Opens, OneGroup, LeadingMarks, CutLines, Begins, Seam, AsLong, InOrder, LinesStand}
@@ -86,7 +86,7 @@ module _ (f : FaceMeaning) (s : Settings) where
 pub one_group : OneGroup
 one_group f s base marks rest hb hm ho =
     ap (λ t. out_by f s t Leading base ∷ flow f s (next_by f s t Leading base) (marks ++ rest)) hb
-    ∙ ap (λ l. base ∷ l) (by_box f s base (ground (f.bounds base.row.code)) marks rest hm ho)
+    ∙ ap (λ l. base ∷ l) (by_box f s base (footing (f.bounds base.row.code)) marks rest hm ho)
 
 pub leading_marks : LeadingMarks
 leading_marks f s marks rest h = leading f s marks rest h

@@ -21,3 +21,6 @@ again_sub {x} {y} {a} {b} e g f = again_is {x = x -ℤ y} (cc) f
 
 pub again_half : {x a : ℤ} → x ≡ a → SFits w32 a → again (quot_z x (pos 2)) ≡ quot_z a (pos 2)
 again_half {x} {a} e f = again_is (ap (λ z. quot_z z (pos 2)) e) (omega (arith, ints))
+
+pub again_both : {A : Type 0} (f : ℤ → ℤ → A) (a b : ℤ) → SFits w32 a → SFits w32 b → f (again a) (again b) ≡ f a b
+again_both f a b p q = ap (λ x. f x (again b)) (again_same a p) ∙ ap (f a) (again_same b q)

@@ -1,10 +1,9 @@
 -- A loop that writes each position by itself.
-use Rattle.std.proofs.Common.{◌≡◌, ℕ, ◌+◌, ◌<◌, ◌≤◌, List, [], ◌∷◌, map, length, get_or, set, sym, refl, ap, ◌∙◌}
+use Rattle.std.proofs.Common.{◌≡◌, ℕ, ◌≤◌, List, [], ◌∷◌, map, length, sym, refl, ap, ◌∙◌}
 use Rattle.signs.specs.declared.SignRow.{SignRow}
-use Rattle.signs.specs.Rows.{read_row}
 use Rattle.placement.specs.declared.position.Position.{Position}
-use Rattle.placement.specs.Lines.{Cell, cell, cells, positions_of}
-use Rattle.placement.proofs.Scans.{run, scan_is, going, scan_more, scan_all}
+use Rattle.placement.specs.Lines.{Cell, cells, positions_of}
+use Rattle.placement.proofs.Scans.{run, scan_is, going, scan_all}
 
 module _ (out : Cell → Cell) where
   abbrev still : Unit {0} → Cell → Unit {0}
@@ -16,10 +15,6 @@ module _ (out : Cell → Cell) where
   -- the positions before i are written, and those after it are as they were
   abbrev pub written : List SignRow → List Position → ℕ → List Position
   written rs ps i = going still by tt rs ps i
-
-  pub written_more : (rs : List SignRow) (ps : List Position) (goal : List Position) (i : ℕ) (r : SignRow) (p w : Position) → i < length rs → i < length ps
-      → w ≡ (out (cell (read_row (get_or rs i r)) (get_or ps i p))).position → written rs ps i ≡ goal → written rs (set ps i w) (i + 1) ≡ goal
-  written_more rs ps goal i r p w hr hp e inv = ap (λ (q : Position). written rs (set ps i q) (i + 1)) e ∙ scan_more still by tt rs ps i r p hr hp ∙ inv
 
   run_map : (cs : List Cell) → run still by tt cs ≡ map out cs
   run_map [] = refl

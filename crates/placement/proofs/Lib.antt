@@ -3,7 +3,6 @@ pub mod Heights
 pub mod Assembled
 pub mod Keeping
 pub mod OneKeeps
-pub mod Tables
 pub mod Maps
 pub mod Firsts
 pub mod Scans
@@ -19,8 +18,8 @@ pub mod LeftOver
 pub mod MarksAhead
 pub mod Along
 pub mod Blank
-pub mod OneGroup
 pub mod ByParts
 pub mod BoundedLists
+pub mod HeldLists
 pub mod Routing
 pub mod WithinBounds

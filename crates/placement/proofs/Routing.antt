@@ -1,5 +1,5 @@
 -- The steps of a line make its route, and what a face answers stays within the bounds of a line.
-use Rattle.std.proofs.Common.{◌≡◌, ℕ, zero, suc, ◌+◌, ◌*◌, ◌/◌, ◌≤◌, Bool, true, false, not, ◌&&◌, eqb, leb, List, [], ◌∷◌, map, length, ℤ, pos, Some, None, Option, unwrap_or, sym, refl, ap, ◌∙◌, ⊎_elim, div-le_self, arith}
+use Rattle.std.proofs.Common.{◌≡◌, ℕ, zero, suc, ◌+◌, ◌*◌, ◌/◌, ◌≤◌, Bool, true, false, not, ◌&&◌, eqb, leb, List, [], ◌∷◌, map, ℤ, pos, Some, None, Option, unwrap_or, sym, refl, ap, ◌∙◌, ⊎_elim, div-le_self, arith}
 use Rattle.std.proofs.lemmas.Int.{ints}
 use Rattle.std.proofs.lemmas.Bool.{cases_Bool, cond_both, cond-true, cond-false, and_parts, or_cases, leb-true, eqb-true}
 use Rattle.signs.specs.declared.SignRow.{SignRow}
@@ -12,7 +12,7 @@ use Rattle.placement.specs.declared.settings.Settings.{Settings}
 use Rattle.placement.specs.Directions.{is_horizontal}
 use Rattle.placement.specs.Lines.{cell, cells, positions_of}
 use Rattle.placement.specs.Mapped.{glyph_for, with_code, map_row, along, map_position}
-use Rattle.placement.specs.Spaces.{size, or_next, first_of, or_else, is_fraction, own_advance, with_advance, halved_along, with_own, space_position, spaced_along}
+use Rattle.placement.specs.Spaces.{size, or_next, first_advance, or_else, is_fraction, own_advance, with_advance, halved_along, with_own, space_position, spaced_along}
 use Rattle.placement.specs.Route.{cell_of}
 use Rattle.placement.specs.Room.{Within, Light, AllLight, AllGlyphs}
 
@@ -63,24 +63,19 @@ module _ (f : FaceMeaning) (s : Settings) where
       let b = cells_routed rs in
       cc
 
-  pub spaced_long : (rs : List SignRow) → length (spaced_positions rs) ≡ length (mapped_rows rs)
-  spaced_long [] = refl
-  spaced_long (r ∷ rs) = ap suc (spaced_long rs)
-
   -- what each step leaves, as the code comes to it
   pub rows_are : (rs : List SignRow) {classes rows : List SignRow} → classes ≡ map reclassed rs → rows ≡ map (map_row f) classes → rows ≡ mapped_rows rs
   rows_are rs ec er = er ∙ ap (map (map_row f)) ec
 
-  positions_are : (rs : List SignRow) {b : Bool} {classes : List SignRow} {ps : List Position} → classes ≡ map reclassed rs → b ≡ h → ps ≡ map (map_position f b) classes → ps ≡ mapped_positions rs
-  positions_are rs {b} {classes} {ps} ec eb ep = ep ∙ ap (λ (x : Bool). map (map_position f x) classes) eb ∙ ap (map (map_position f h)) ec
+  positions_are : (rs : List SignRow) {classes : List SignRow} {ps : List Position} → classes ≡ map reclassed rs → ps ≡ map (map_position f h) classes → ps ≡ mapped_positions rs
+  positions_are rs ec ep = ep ∙ ap (map (map_position f h)) ec
 
-  pub spaces_are : (rs : List SignRow) {b : Bool} {classes rows : List SignRow} {ps qs : List Position} → classes ≡ map reclassed rs → b ≡ h → rows ≡ map (map_row f) classes → ps ≡ map (map_position f b) classes
-      → qs ≡ positions_of (map (spaced_along f b) (cells rows ps)) → qs ≡ spaced_positions rs
-  spaces_are rs {b} {classes} {rows} {ps} {qs} ec eb er ep eq =
+  pub spaces_are : (rs : List SignRow) {classes rows : List SignRow} {ps qs : List Position} → classes ≡ map reclassed rs → rows ≡ map (map_row f) classes → ps ≡ map (map_position f h) classes
+      → qs ≡ positions_of (map (spaced_along f h) (cells rows ps)) → qs ≡ spaced_positions rs
+  spaces_are rs {classes} {rows} {ps} {qs} ec er ep eq =
       eq
-      ∙ ap (λ (x : Bool). positions_of (map (spaced_along f x) (cells rows ps))) eb
       ∙ ap (λ (x : List SignRow). positions_of (map (spaced_along f h) (cells x ps))) (rows_are rs ec er)
-      ∙ ap (λ (x : List Position). positions_of (map (spaced_along f h) (cells (mapped_rows rs) x))) (positions_are rs ec eb ep)
+      ∙ ap (λ (x : List Position). positions_of (map (spaced_along f h) (cells (mapped_rows rs) x))) (positions_are rs ec ep)
 
   module _ (keeps : Keeps f) where
     glyph_most : (o : Option ℕ) (code : ℕ) → f.glyph code ≡ o → unwrap_or o 0 ≤ 65535
@@ -110,7 +105,7 @@ module _ (f : FaceMeaning) (s : Settings) where
     next_near b (Some g) other q = along_near b g
     next_near b None other q = q
 
-    first_near : (b : Bool) (code n : ℕ) → Near (first_of f b code n)
+    first_near : (b : Bool) (code n : ℕ) → Near (first_advance f b code n)
     first_near b code zero = tt
     first_near b code (suc n) = next_near b (f.glyph code) _ (first_near b (code + 1) n)
 

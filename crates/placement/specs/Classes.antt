@@ -1,5 +1,6 @@
 -- What a combining class says of a mark's place.
-use Rattle.std.specs.Prelude.{ℕ, Bool, false, cond, ◌||◌, List, [], ◌∷◌, Some, None, Option, ◌==◌}
+use Rattle.std.specs.Prelude.{ℕ, Bool, cond, List, [], ◌∷◌, Some, None, Option, ◌==◌}
+use Rattle.std.specs.List.{list_any}
 use Rattle.placement.specs.declared.classes.Way.{Way}
 use Rattle.placement.specs.declared.classes.Way.TheVariants.{Above, Below}
 use Rattle.placement.specs.declared.classes.Align.{Align}
@@ -8,8 +9,7 @@ use Rattle.placement.specs.declared.direction.Direction.{Direction}
 use Rattle.placement.specs.declared.direction.Direction.TheVariants.{LeftToRight, RightToLeft, TopToBottom, BottomToTop}
 
 abbrev pub one_of : ℕ → List ℕ → Bool
-one_of c [] = false
-one_of c (x ∷ xs) = c == x || one_of c xs
+one_of c xs = list_any (λ x. x == c) xs
 
 -- Marks of these classes stand below their base, or above it; marks of any other class keep their height.
 abbrev pub is_below : ℕ → Bool

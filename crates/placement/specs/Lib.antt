@@ -13,6 +13,7 @@ pub mod Mapped
 pub mod Spaces
 pub mod Components
 pub mod Walks
+pub mod Bases
 pub mod Placements
 pub mod Route
 pub mod Marks

@@ -12,8 +12,11 @@ abbrev pub gap_of : FaceMeaning → ℕ
 gap_of f = f.em / 16
 
 -- The box of a base: as wide as its advance across, from its own bottom to its own top.
+abbrev pub box_on : ℕ → Edges → Extents
+box_on across e = record { left = pos 0; width = pos across; bottom = e.bottom; top = e.top }
+
 abbrev pub base_box : ℕ → Option Edges → Option Extents
-base_box across (Some e) = Some (record { left = pos 0; width = pos across; bottom = e.bottom; top = e.top })
+base_box across (Some e) = Some (box_on across e)
 base_box across None = None
 
 abbrev pub base_of : FaceMeaning → ℕ → Option Extents

@@ -6,7 +6,7 @@ use Rattle.placement.specs.declared.position.Position.{Position}
 use Rattle.placement.specs.declared.settings.Settings.{Settings}
 use Rattle.placement.specs.declared.walk.Walk.{Walk}
 use Rattle.placement.specs.Lines.{Cell, cell, at}
-use Rattle.placement.specs.Walks.{Base, ground, base_at, start, next, out, walked}
+use Rattle.placement.specs.Walks.{Base, footing, base_at, start, next, out, walked}
 
 -- A nonspacing mark after a base without a box has no advances; where the line adjusts, it first goes back by them.
 abbrev pub less : Bool → ℤ → ℤ → ℤ
@@ -46,7 +46,7 @@ module _ (f : FaceMeaning) (s : Settings) where
 
   abbrev pub next_by : Bool → Standing → Cell → Standing
   next_by true st c = mark_next st c
-  next_by false st c = opened c (ground (f.bounds c.row.code))
+  next_by false st c = opened c (footing (f.bounds c.row.code))
 
   abbrev pub flow : Standing → List Cell → List Cell
   flow st [] = []
@@ -63,4 +63,4 @@ module _ (f : FaceMeaning) (s : Settings) where
   -- a base and its marks
   abbrev pub group : List Cell → List Cell
   group [] = []
-  group (c ∷ ms) = c ∷ around c (ground (f.bounds c.row.code)) ms
+  group (c ∷ ms) = c ∷ around c (footing (f.bounds c.row.code)) ms

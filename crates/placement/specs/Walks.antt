@@ -13,22 +13,25 @@ use Rattle.placement.specs.Text.{is_text_ltr}
 use Rattle.placement.specs.Lines.{Cell, cell, at}
 use Rattle.placement.specs.Components.{component, share}
 use Rattle.placement.specs.Placing.{placed}
-use Rattle.placement.specs.OneMark.{gap_of}
+use Rattle.placement.specs.OneMark.{box_on, gap_of}
 
 -- The box by which a mark is measured, and the one by which a base is.
 abbrev pub ink : Option Edges → Option Edges
 ink o = o
 
-abbrev pub ground : Option Edges → Option Edges
-ground o = o
+abbrev pub footing : Option Edges → Option Edges
+footing o = o
 
 -- The base of a group: its row, and its box, as wide as its advance across and moved up by its offset.
 pub record Base : Type 0 where
   pub row : SignRow
   pub extents : Extents
 
+abbrev pub raised : ℤ → Extents → Extents
+raised y e = record { left = e.left; width = e.width; bottom = e.bottom +ℤ y; top = e.top +ℤ y }
+
 abbrev pub base_at : FaceMeaning → Cell → Edges → Base
-base_at f c e = record { row = c.row; extents = record { left = pos 0; width = pos (f.across c.row.code); bottom = e.bottom +ℤ c.position.y_offset; top = e.top +ℤ c.position.y_offset } }
+base_at f c e = record { row = c.row; extents = raised c.position.y_offset (box_on (f.across c.row.code) e) }
 
 -- Forward, the pen has gone by the advances of the base when it draws a mark, and that is taken back; backward, it has yet
 -- to go by them.

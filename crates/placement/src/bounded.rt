@@ -1,70 +1,43 @@
 // What a line may hold.
 ghost use Rattle.std.specs.Prelude.{◌≡◌};
+ghost use Rattle.std.specs.List.{list_all};
 ghost use Rattle.placement.specs.Bounded.{bounded, bounded_position, bounded_row, inside};
-ghost use Rattle.faces.specs.Keys.{every};
 
 use crate::position::Position;
 use signs::SignRow;
 
 const MOST_GLYPH: u32 = 65535;
 
-const MOST_ADVANCE: i32 = 65535;
+const MOST_ADVANCE: u32 = 65535;
 
-const MOST_OFFSET: i32 = 40000000;
+const MOST_OFFSET: u32 = 40000000;
 
-fn has_bounded_x_advance(position: Position) -> bool
-    ensures { result ≡ inside 65535 position.x_advance }
+// Whether a value is at most so many units either way.
+fn inside(most: u32, value: i32) -> bool
+    ensures { result ≡ inside most value }
 {
-    -MOST_ADVANCE <= position.x_advance && position.x_advance <= MOST_ADVANCE
-}
-
-fn has_bounded_y_advance(position: Position) -> bool
-    ensures { result ≡ inside 65535 position.y_advance }
-{
-    -MOST_ADVANCE <= position.y_advance && position.y_advance <= MOST_ADVANCE
-}
-
-fn has_bounded_x_offset(position: Position) -> bool
-    ensures { result ≡ inside 40000000 position.x_offset }
-{
-    -MOST_OFFSET <= position.x_offset && position.x_offset <= MOST_OFFSET
-}
-
-fn has_bounded_y_offset(position: Position) -> bool
-    ensures { result ≡ inside 40000000 position.y_offset }
-{
-    -MOST_OFFSET <= position.y_offset && position.y_offset <= MOST_OFFSET
+    value.unsigned_abs() <= most
 }
 
 fn is_bounded(position: Position) -> bool
     ensures { result ≡ bounded_position position }
 {
-    has_bounded_x_advance(position)
-        && has_bounded_y_advance(position)
-        && has_bounded_x_offset(position)
-        && has_bounded_y_offset(position)
+    inside(MOST_ADVANCE, position.x_advance)
+        && inside(MOST_ADVANCE, position.y_advance)
+        && inside(MOST_OFFSET, position.x_offset)
+        && inside(MOST_OFFSET, position.y_offset)
 }
 
 fn rows_bounded(rows: &[SignRow]) -> bool
-    ensures { result ≡ every bounded_row rows.now }
+    ensures { result ≡ list_all bounded_row rows.now }
 {
-    for row in rows {
-        if row.code > MOST_GLYPH {
-            return false;
-        }
-    }
-    true
+    rows.iter().all(|row| row.code <= MOST_GLYPH)
 }
 
 fn positions_bounded(positions: &[Position]) -> bool
-    ensures { result ≡ every bounded_position positions.now }
+    ensures { result ≡ list_all bounded_position positions.now }
 {
-    for position in positions {
-        if !is_bounded(*position) {
-            return false;
-        }
-    }
-    true
+    positions.iter().all(|position| is_bounded(*position))
 }
 
 // Whether lists hold only what a line may hold.

@@ -7,10 +7,10 @@ ghost use Rattle.placement.specs.Worked.{Worked};
 use signs::signs_stand;
 
 // A line has a cell for each sign, in order, and is placed group by group.
-pub fn lines_stand() -> bool
+pub fn lines_stand()
     ensures { LinesStand }
 {
-    signs_stand()
+    signs_stand();
 }
 
 // What the test of a line's bounds says, and that a route stays within them.
@@ -19,9 +19,7 @@ pub fn bounds_stand()
 {}
 
 // What a placed mark keeps by any box of a run, and worked placements.
-pub fn placing_stands() -> bool
+pub fn placing_stands()
     ensures kept { PlacedMarksKeep }
     ensures worked { Worked }
-{
-    true
-}
+{}

@@ -1,14 +1,17 @@
 // Lines of signs over any face: classed, mapped, spaced, and their marks placed.
 #![tactic(auto)]
 
+mod base;
 mod bounded;
 mod classes;
 mod classing;
 mod components;
 mod direction;
 mod extents;
+mod gap;
 mod groups;
 mod laws;
+mod layout;
 mod line;
 mod mapping;
 mod marks;
@@ -18,12 +21,13 @@ mod positioning;
 mod refusal;
 mod scripts;
 mod settings;
+mod space;
 mod spaces;
 mod walk;
 mod walking;
 
 pub use bounded::all_bounded;
-pub use direction::Direction;
+pub use direction::{Direction, UnknownDirection};
 pub use extents::{Extents, PlacedMark};
 pub use laws::{bounds_stand, lines_stand, placing_stands};
 pub use line::steps::route_line;

@@ -1,41 +1,45 @@
 // A line of signs by how far it has come. Each step takes the line and gives the next; the lists are lent to it.
 use crate::refusal::Refusal;
 use crate::settings::Settings;
+use std::marker::PhantomData;
 
 pub mod steps;
 
 // The most signs of a line.
 pub const MOST_SIGNS: usize = 256;
 
-#[derive(Drop)]
-pub struct Written {
-    len: usize,
-    settings: Settings,
-}
+// How far a line has come: no value of these types is ever made.
+#[derive(Clone, Copy)]
+pub enum IsWritten {}
+
+#[derive(Clone, Copy)]
+pub enum IsClassed {}
+
+#[derive(Clone, Copy)]
+pub enum IsMapped {}
+
+#[derive(Clone, Copy)]
+pub enum IsSpaced {}
+
+#[derive(Clone, Copy)]
+pub enum IsPlaced {}
 
 #[derive(Drop)]
-pub struct Classed {
+pub struct Line<S> {
     len: usize,
     settings: Settings,
+    step: PhantomData<S>,
 }
 
-#[derive(Drop)]
-pub struct Mapped {
-    len: usize,
-    settings: Settings,
-}
+pub type Written = Line<IsWritten>;
 
-#[derive(Drop)]
-pub struct Spaced {
-    len: usize,
-    settings: Settings,
-}
+pub type Classed = Line<IsClassed>;
 
-#[derive(Drop)]
-pub struct Placed {
-    len: usize,
-    settings: Settings,
-}
+pub type Mapped = Line<IsMapped>;
+
+pub type Spaced = Line<IsSpaced>;
+
+pub type Placed = Line<IsPlaced>;
 
 // A refused step: the line as it was, and why.
 #[derive(Drop)]

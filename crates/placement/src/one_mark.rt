@@ -5,7 +5,8 @@ ghost use Rattle.placement.specs.Room.{AllRoom};
 
 use crate::direction::Direction;
 use crate::extents::{Extents, PlacedMark};
-use crate::marks::position_mark;
+use crate::gap::Gap;
+use crate::marks::Unplaced;
 use faces::Face;
 
 // The box of a base: as wide as its advance, as high as its own box.
@@ -13,15 +14,8 @@ fn base_extents<F: Face>(face: &F, base: u16) -> Option<Extents>
     ensures value { result ≡ base_of (F.meaning face.now) base }
     ensures room { AllRoom result }
 {
-    let Some(bounds) = face.bounds(base) else {
-        return None;
-    };
-    Some(Extents {
-        left: 0,
-        width: face.across(base) as i32,
-        bottom: bounds.bottom() as i32,
-        top: bounds.top() as i32,
-    })
+    let bounds = face.bounds(base)?;
+    Some(Extents::of_base(face, base, bounds))
 }
 
 // Where a mark of a class goes on a base that has no other mark, from the base's origin. None where either has no box,
@@ -39,11 +33,7 @@ pub fn position_one_mark<F: Face>(
     if class == 0 {
         return None;
     }
-    let Some(run) = base_extents(face, base) else {
-        return None;
-    };
-    let Some(bounds) = face.bounds(mark) else {
-        return None;
-    };
-    Some(position_mark(run, bounds, face.em() / 16, class, direction))
+    let run = base_extents(face, base)?;
+    let mark = face.bounds(mark)?;
+    Some(Unplaced { run, mark }.place(Gap::of(face), class, direction))
 }

@@ -1,49 +1,36 @@
 // Placing the marks of a line, group by group.
 ghost use Rattle.std.specs.Prelude.{◌≡◌, ◌<◌, ◌≤◌, length};
+ghost use Rattle.std.specs.List.{position};
 ghost use Rattle.placement.specs.Lines.{cells, positions_of};
-ghost use Rattle.placement.specs.Marks.{base_after};
+ghost use Rattle.placement.specs.Marks.{base_after, is_base, marks};
 ghost use Rattle.placement.specs.Placements.{group, placed_line};
 ghost use Rattle.placement.specs.Room.{AllGlyphs, AllLight};
 
-use crate::groups::{base_box, position_along, walk_from, zero_mark_advances};
+use crate::groups::zero_mark_advances;
+use crate::layout::Layout;
 use crate::position::Position;
-use crate::settings::Settings;
+use crate::walk::Walk;
 use faces::Face;
 use signs::{Sign, SignRow};
 
-// A base and its marks. A base without a box ends the group early.
-fn position_around_base<F: Face>(
-    face: &F,
-    settings: Settings,
-    rows: &[SignRow],
-    positions: &mut [Position],
-)
-    requires some { 0 < length rows.now }
-    requires long { length positions.old ≡ length rows.now }
-    requires few { length rows.now ≤ 256 }
-    requires glyphs { AllGlyphs rows.now }
-    requires light { AllLight positions.old }
-    ensures { positions.new ≡ positions_of (group (F.meaning face.now) settings (cells rows.now positions.old)) }
+fn is_base(row: SignRow) -> bool
+    ensures { result ≡ is_base row }
 {
-    let n = rows.len();
-    let base = Sign::read(rows[0]);
-    let row = base.row();
-    let Some(bounds) = face.bounds(row.code as u16) else {
-        zero_mark_advances(settings.adjust, &rows[1..n], &mut positions[1..n]);
-        return;
-    };
-    let position = positions[0];
-    let extents = base_box(face, row, bounds, position);
-    let walk = walk_from(settings.direction.is_forward(), position, extents);
-    position_along(
-        face,
-        settings,
-        base,
-        extents,
-        walk,
-        &rows[1..n],
-        &mut positions[1..n],
-    );
+    !Sign::read(row).is_mark()
+}
+
+fn first_base(rows: &[SignRow]) -> Option<usize>
+    ensures { result ≡ position is_base rows.now }
+{
+    rows.iter().position(|row| is_base(*row))
+}
+
+// How many marks a list begins with.
+fn marks_ahead(rows: &[SignRow]) -> usize
+    ensures value { result ≡ marks rows.now }
+    ensures few { result ≤ length rows.now }
+{
+    first_base(rows).unwrap_or(rows.len())
 }
 
 // The first sign from a place on that is no mark, or the length.
@@ -52,12 +39,7 @@ fn base_after(rows: &[SignRow], place: usize) -> usize
     ensures value { result ≡ base_after rows.now place }
     ensures ends { (place ≤ result) × (result ≤ length rows.now) }
 {
-    for k in place..rows.len() {
-        if !Sign::read(rows[k]).is_mark() {
-            return k;
-        }
-    }
-    rows.len()
+    place + marks_ahead(&rows[place..])
 }
 
 // The first place from one on that has no mark: past the end there is none.
@@ -71,23 +53,42 @@ pub fn next_base(rows: &[SignRow], place: usize) -> usize
     base_after(rows, place)
 }
 
-pub(crate) fn position_marks<F: Face>(
-    face: &F,
-    settings: Settings,
-    rows: &[SignRow],
-    positions: &mut [Position],
-)
-    requires long { length positions.old ≡ length rows.now }
-    requires few { length rows.now ≤ 256 }
-    requires glyphs { AllGlyphs rows.now }
-    requires light { AllLight positions.old }
-    ensures { positions.new ≡ positions_of (placed_line (F.meaning face.now) settings (cells rows.now positions.old)) }
-{
-    let n = rows.len();
-    let mut i = base_after(rows, 0);
-    while i < n {
-        let j = base_after(rows, i + 1);
-        position_around_base(face, settings, &rows[i..j], &mut positions[i..j]);
-        i = j;
+impl<F: Face> Layout<'_, F> {
+    // A base and its marks. A base without a box ends the group early.
+    fn position_around_base(&self, rows: &[SignRow], positions: &mut [Position])
+        requires some { 0 < length rows.now }
+        requires long { length positions.old ≡ length rows.now }
+        requires few { length rows.now ≤ 256 }
+        requires glyphs { AllGlyphs rows.now }
+        requires light { AllLight positions.old }
+        ensures { positions.new ≡ positions_of (group (F.meaning self.now.face.now) self.now.settings (cells rows.now positions.old)) }
+    {
+        let n = rows.len();
+        let sign = Sign::read(rows[0]);
+        let Some(bounds) = self.face.bounds(sign.row().code as u16) else {
+            zero_mark_advances(self.settings.adjust, &rows[1..n], &mut positions[1..n]);
+            return;
+        };
+        let position = positions[0];
+        let base = self.base_at(sign, bounds, position);
+        let walk = Walk::from_base(self.settings.direction.is_forward(), position, base);
+        self.position_along(base, walk, &rows[1..n], &mut positions[1..n]);
+    }
+
+    pub(crate) fn position_marks(&self, rows: &[SignRow], positions: &mut [Position])
+        requires long { length positions.old ≡ length rows.now }
+        requires few { length rows.now ≤ 256 }
+        requires glyphs { AllGlyphs rows.now }
+        requires light { AllLight positions.old }
+        ensures { positions.new ≡ positions_of (placed_line (F.meaning self.now.face.now) self.now.settings (cells rows.now positions.old)) }
+    {
+        // A group ends where the next base stands: no `for` takes such steps through two lists.
+        let n = rows.len();
+        let mut i = base_after(rows, 0);
+        while i < n {
+            let j = base_after(rows, i + 1);
+            self.position_around_base(&rows[i..j], &mut positions[i..j]);
+            i = j;
+        }
     }
 }

@@ -2,22 +2,19 @@
 ghost use Rattle.std.specs.Prelude.{◌≡◌};
 ghost use Rattle.placement.specs.Refusals.{number_of};
 
+// A refusal's number is the one by which callers know it.
 #[derive(Clone, Copy, PartialEq, Eq, Debug)]
 pub enum Refusal {
     // More signs than a line may have, or lists that are not as long as the line.
-    Length,
+    Length = 13,
     // A glyph, an advance or an offset beyond what a line may hold.
-    OutOfBounds,
+    OutOfBounds = 16,
 }
 
-impl Refusal {
-    // The number by which callers know it.
-    pub fn number(self) -> u8
-        ensures { result ≡ number_of self }
-    {
-        match self {
-            Refusal::Length => 13,
-            Refusal::OutOfBounds => 16,
-        }
+impl From<Refusal> for u8 {
+    ghost from_gives = { λ e n. n ≡ number_of e };
+
+    fn from(refusal: Refusal) -> u8 {
+        refusal as u8
     }
 }

@@ -1,6 +1,5 @@
 // Scripts and the direction in which they are written. A script is the number of its four letters, 0 for none.
 ghost use Rattle.std.specs.Prelude.{◌≡◌};
-ghost use Rattle.placement.specs.Classes.{one_of};
 ghost use Rattle.placement.specs.Scripts.{from_script};
 
 use crate::direction::Direction;
@@ -91,25 +90,14 @@ const EITHER: [u32; 4] = [
     0x54666E67,
 ];
 
-fn is_listed(table: &[u32], script: u32) -> bool
-    ensures { result ≡ one_of script table.now }
-{
-    for listed in table {
-        if script == *listed {
-            return true;
-        }
-    }
-    false
-}
-
 // The direction of a script, if it has one of its own.
 pub fn from_script(script: u32) -> Option<Direction>
     ensures { result ≡ from_script script }
 {
-    if is_listed(&RIGHT_TO_LEFT, script) {
+    if RIGHT_TO_LEFT.contains(&script) {
         return Some(Direction::RightToLeft);
     }
-    if is_listed(&EITHER, script) {
+    if EITHER.contains(&script) {
         return None;
     }
     Some(Direction::LeftToRight)

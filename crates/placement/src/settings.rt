@@ -5,10 +5,10 @@ ghost use Rattle.placement.specs.Text.{is_text_ltr};
 use crate::direction::Direction;
 use crate::scripts::from_script;
 
-#[derive(Clone, Copy)]
+#[derive(Clone, Copy, Default)]
 pub struct Settings {
     pub direction: Direction,
-    // The number of the script's four letters, the first one highest; 0 for none.
+    // The number of the script's four letters, the first one highest; 0 for none. States of a line are plain numbers.
     pub script: u32,
     // Whether marks on a base without a box go back by their advances before these are zeroed.
     pub adjust: bool,
@@ -22,10 +22,7 @@ impl Settings {
         match self.direction {
             Direction::LeftToRight => true,
             Direction::RightToLeft => false,
-            _ => match from_script(self.script) {
-                Some(Direction::RightToLeft) => false,
-                _ => true,
-            },
+            _ => from_script(self.script) != Some(Direction::RightToLeft),
         }
     }
 }

@@ -1,112 +1,90 @@
 // The walk along the marks of a group: each mark goes by what those before it left.
 ghost use Rattle.std.specs.Prelude.{◌≡◌, ◌≤◌};
+ghost use Rattle.placement.specs.Bases.{as_base};
 ghost use Rattle.placement.specs.Components.{component};
 ghost use Rattle.placement.specs.Lines.{cell};
-ghost use Rattle.placement.specs.Room.{Light, Near, Spans, Within};
-ghost use Rattle.placement.specs.Walks.{Known, ink, kept_at, next, out, passed, placed_at, settled, settled_walk, to_component, to_run, with_run};
+ghost use Rattle.placement.specs.Room.{Light, Near, Within};
+ghost use Rattle.placement.specs.Walks.{Known, corrected, ink, kept_at, next, out, passed, settled, settled_walk, to_component, to_run};
 ghost use Rattle.signs.specs.Rows.{read_row};
 ghost use Rattle.signs.specs.Signs.{row_of};
 
-use crate::components::{component_of, share_of};
-use crate::extents::{Extents, PlacedMark};
-use crate::marks::position_mark;
+use crate::base::Base;
+use crate::gap::Gap;
+use crate::layout::Layout;
+use crate::marks::Unplaced;
 use crate::position::Position;
 use crate::settings::Settings;
 use crate::walk::Walk;
 use faces::Face;
 use signs::{Sign, SignRow};
 
-// A mark of class 0 stays, and the marks after it make up for its advances.
-fn pass(forward: bool, walk: Walk, position: Position) -> Walk
-    requires near { Near 256 walk }
-    requires light { Light position }
-    ensures { result ≡ passed forward walk position }
+// A correction after a mark that stays where it is.
+fn corrected(forward: bool, by: i32, advance: i32) -> i32
+    requires by { Within 40000000 by }
+    requires advance { Within 65535 advance }
+    ensures { result ≡ corrected forward by advance }
 {
-    if forward {
+    if forward { by - advance } else { by + advance }
+}
+
+impl Walk {
+    // A mark of class 0 stays, and the marks after it make up for its advances.
+    fn pass(self, forward: bool, position: Position) -> Walk
+        requires near { Near 256 self }
+        requires light { Light position }
+        ensures { result ≡ passed forward self position }
+    {
         Walk {
-            x: walk.x - position.x_advance,
-            y: walk.y - position.y_advance,
-            ..walk
+            x: corrected(forward, self.x, position.x_advance),
+            y: corrected(forward, self.y, position.y_advance),
+            ..self
         }
-    } else {
+    }
+
+    // At the component of a mark: at another one, its box is that component's, and no run has begun.
+    fn to_component(self, settings: Settings, base: Base, mark: Sign) -> Walk
+        requires { Known (as_base base) self }
+        ensures { result ≡ to_component settings (as_base base) (component (row_of base.sign) (row_of mark)) self }
+    {
+        let number = base.component_of(mark);
+        if self.component == number {
+            return self;
+        }
         Walk {
-            x: walk.x + position.x_advance,
-            y: walk.y + position.y_advance,
-            ..walk
+            component: number,
+            class: 0,
+            around: base.share_of(settings.is_text_ltr(), number),
+            ..self
         }
     }
-}
 
-// The walk at the component of a mark: at another one, its box is that component's, and no run has begun.
-fn to_component(settings: Settings, base: Sign, extents: Extents, mark: Sign, walk: Walk) -> Walk
-    requires base { Spans 40032768 extents }
-    requires known { Known (record { row = row_of base; extents = extents }) walk }
-    ensures { result ≡ to_component settings (record { row = row_of base; extents = extents }) (component (row_of base) (row_of mark)) walk }
-{
-    let number = component_of(base, mark);
-    if walk.component == number {
-        return walk;
+    // In a run of a class: another one begins from the box of its component.
+    fn to_run(self, class: u8) -> Walk
+        ensures { result ≡ to_run class self }
+    {
+        if self.class == class {
+            return self;
+        }
+        Walk {
+            class,
+            run: self.around,
+            ..self
+        }
     }
-    Walk {
-        component: number,
-        class: 0,
-        around: share_of(
-            settings.is_text_ltr(),
-            base.lig_num_comps(),
-            number,
-            extents,
-        ),
-        ..walk
-    }
-}
 
-// The walk in a run of a class: another one begins from the box of its component.
-fn to_run(class: u8, walk: Walk) -> Walk
-    ensures { result ≡ to_run class walk }
-{
-    if walk.class == class {
-        return walk;
+    // A mark drawn by its offsets: these are corrected, and it has no advances.
+    fn drawn(self, position: Position) -> Position
+        requires near { Near 256 self }
+        requires x { Within 40000000 position.x_offset }
+        requires y { Within 60033792 position.y_offset }
+        ensures { result ≡ kept_at self position }
+    {
+        Position {
+            x_offset: position.x_offset + self.x,
+            y_offset: position.y_offset + self.y,
+            ..Position::default()
+        }
     }
-    Walk {
-        class,
-        run: walk.around,
-        ..walk
-    }
-}
-
-// A mark with a box: at its place, corrected.
-fn placed_at(walk: Walk, placed: PlacedMark) -> Position
-    requires near { Near 256 walk }
-    requires x { Within 1200000 placed.x }
-    requires y { Within 60033792 placed.y }
-    ensures { result ≡ placed_at walk placed }
-{
-    Position {
-        x_advance: 0,
-        y_advance: 0,
-        x_offset: placed.x + walk.x,
-        y_offset: placed.y + walk.y,
-    }
-}
-
-// A mark without a box: its own offsets, corrected.
-fn kept_at(walk: Walk, position: Position) -> Position
-    requires near { Near 256 walk }
-    requires light { Light position }
-    ensures { result ≡ kept_at walk position }
-{
-    Position {
-        x_advance: 0,
-        y_advance: 0,
-        x_offset: position.x_offset + walk.x,
-        y_offset: position.y_offset + walk.y,
-    }
-}
-
-fn with_run(walk: Walk, run: Extents) -> Walk
-    ensures { result ≡ with_run walk run }
-{
-    Walk { run, ..walk }
 }
 
 // What a mark leaves: the walk for the next one, and its own position.
@@ -116,59 +94,52 @@ pub(crate) struct Stepped {
     pub(crate) position: Position,
 }
 
-// A mark in its run.
-fn settle<F: Face>(
-    face: &F,
-    settings: Settings,
-    walk: Walk,
-    class: u8,
-    glyph: u16,
-    position: Position,
-) -> Stepped
-    requires near { Near 256 walk }
-    requires light { Light position }
-    ensures walk { result.walk ≡ settled_walk (F.meaning face.now) settings walk class (ink ((F.meaning face.now).bounds glyph)) }
-    ensures position { result.position ≡ settled (F.meaning face.now) settings walk class (ink ((F.meaning face.now).bounds glyph)) position }
-{
-    let Some(bounds) = face.bounds(glyph) else {
-        return Stepped {
-            walk,
-            position: kept_at(walk, position),
+impl<F: Face> Layout<'_, F> {
+    // A mark in its run.
+    fn settle(&self, walk: Walk, class: u8, glyph: u16, position: Position) -> Stepped
+        requires near { Near 256 walk }
+        requires light { Light position }
+        ensures walk { result.walk ≡ settled_walk (F.meaning self.now.face.now) self.now.settings walk class (ink ((F.meaning self.now.face.now).bounds glyph)) }
+        ensures position { result.position ≡ settled (F.meaning self.now.face.now) self.now.settings walk class (ink ((F.meaning self.now.face.now).bounds glyph)) position }
+    {
+        let Some(bounds) = self.face.bounds(glyph) else {
+            return Stepped {
+                walk,
+                position: walk.drawn(position),
+            };
         };
-    };
-    let placed = position_mark(walk.run, bounds, face.em() / 16, class, settings.direction);
-    Stepped {
-        walk: with_run(walk, placed.run),
-        position: placed_at(walk, placed),
+        let unplaced = Unplaced {
+            run: walk.run,
+            mark: bounds,
+        };
+        let placed = unplaced.place(Gap::of(self.face), class, self.settings.direction);
+        Stepped {
+            walk: Walk {
+                run: placed.run,
+                ..walk
+            },
+            position: walk.drawn(placed.position()),
+        }
     }
-}
 
-// One mark of a group, after a base with a box.
-pub(crate) fn step<F: Face>(
-    face: &F,
-    settings: Settings,
-    base: Sign,
-    extents: Extents,
-    walk: Walk,
-    row: SignRow,
-    position: Position,
-) -> Stepped
-    requires glyph { row.code ≤ 65535 }
-    requires base { Spans 40032768 extents }
-    requires known { Known (record { row = row_of base; extents = extents }) walk }
-    requires near { Near 256 walk }
-    requires light { Light position }
-    ensures walk { result.walk ≡ next (F.meaning face.now) settings (record { row = row_of base; extents = extents }) walk (cell (read_row row) position) }
-    ensures position { result.position ≡ (out (F.meaning face.now) settings (record { row = row_of base; extents = extents }) walk (cell (read_row row) position)).position }
-{
-    let mark = Sign::read(row);
-    let class = mark.class();
-    if class == 0 {
-        return Stepped {
-            walk: pass(settings.direction.is_forward(), walk, position),
-            position,
-        };
+    // One mark of a group, after a base with a box.
+    pub(crate) fn step(&self, base: Base, walk: Walk, row: SignRow, position: Position) -> Stepped
+        requires glyph { row.code ≤ 65535 }
+        requires known { Known (as_base base) walk }
+        requires near { Near 256 walk }
+        requires light { Light position }
+        ensures walk { result.walk ≡ next (F.meaning self.now.face.now) self.now.settings (as_base base) walk (cell (read_row row) position) }
+        ensures position { result.position ≡ (out (F.meaning self.now.face.now) self.now.settings (as_base base) walk (cell (read_row row) position)).position }
+    {
+        let mark = Sign::read(row);
+        let class = mark.class();
+        if class == 0 {
+            return Stepped {
+                walk: walk.pass(self.settings.direction.is_forward(), position),
+                position,
+            };
+        }
+        let entered = walk.to_component(self.settings, base, mark).to_run(class);
+        self.settle(entered, class, row.code as u16, position)
     }
-    let entered = to_run(class, to_component(settings, base, extents, mark, walk));
-    settle(face, settings, entered, class, row.code as u16, position)
 }

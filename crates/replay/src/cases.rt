@@ -38,13 +38,10 @@ fn edges(left: i32, bottom: i32, right: i32, top: i32) -> anyhow::Result<[i16; 4
 }
 
 fn direction(number: i32) -> anyhow::Result<Direction> {
-    match number {
-        1 => Ok(Direction::LeftToRight),
-        2 => Ok(Direction::RightToLeft),
-        3 => Ok(Direction::TopToBottom),
-        4 => Ok(Direction::BottomToTop),
-        _ => Err(anyhow!("a direction is 1 to 4")),
-    }
+    u8::try_from(number)
+        .ok()
+        .and_then(|number| Direction::try_from(number).ok())
+        .ok_or_else(|| anyhow!("a direction is 1 to 4"))
 }
 
 // em, the base's advance across, its box, the mark's box, class, direction (1 to 4: right, left, down, up).
@@ -84,11 +81,7 @@ pub fn read_case(heap: Global, line: &str) -> anyhow::Result<Case> {
 // Where the mark lies from the base's origin.
 pub fn answer(case: &Case) -> Option<(i32, i32)> {
     let glyphs = [case.base, case.mark];
-    let Ok(face) = RecordFace::new(case.em, &glyphs, &[]) else {
-        return None;
-    };
-    let Some(placed) = position_one_mark(&face, 1, 2, case.class, case.direction) else {
-        return None;
-    };
+    let face = RecordFace::new(case.em, &glyphs, &[]).ok()?;
+    let placed = position_one_mark(&face, 1, 2, case.class, case.direction)?;
     Some((placed.x, placed.y))
 }

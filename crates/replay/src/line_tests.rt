@@ -1,64 +1,47 @@
 // Refusals and edges of signs and of the steps of a line.
 use crate::cases::boxed;
 use faces::{GlyphRecord, RecordFace};
-use placement::{Direction, Position, Settings, Written, route_line};
+use placement::{Position, Settings, Written, route_line};
 use signs::{Sign, SignRow};
 use std::test::Fail;
 
-const SETTINGS: Settings = Settings {
-    direction: Direction::LeftToRight,
-    script: 0,
-    adjust: false,
-};
-
 // The number of the refusal, 0 where the sign is made.
 fn sign_number(code: u32, unicode_props: u16) -> u8 {
-    match Sign::new(code, unicode_props, 0, 0) {
-        Ok(_sign) => 0,
-        Err(refusal) => refusal.number(),
-    }
+    Sign::new(code, unicode_props, 0, 0).map_or_else(u8::from, |_| 0)
 }
 
 fn row(code: u32, unicode_props: u16) -> SignRow {
     SignRow {
         code,
         unicode_props,
-        glyph_props: 0,
-        lig_props: 0,
+        ..SignRow::default()
     }
 }
 
 fn at(x_advance: i32, x_offset: i32) -> Position {
     Position {
         x_advance,
-        y_advance: 0,
         x_offset,
-        y_offset: 0,
+        ..Position::default()
     }
 }
 
 // The number with which a line of one sign is refused at spacing, 0 where it is not; its position must then be as it was.
-fn spaced_number(code: u32, position: Position) -> u8 {
-    let Ok(face) = RecordFace::new(1000, &[], &[]) else {
-        return 255;
-    };
-    let Ok(line) = Written::new(1, SETTINGS) else {
-        return 255;
-    };
+fn spaced_number(code: u32, position: Position) -> Result<u8, Fail> {
+    let face = RecordFace::new(1000, &[], &[]).map_err(|_| Fail::new("no face"))?;
     let mut rows = [row(65, 9)];
     let mut positions = [at(0, 0)];
-    let Ok(line) = line.classed(&mut rows) else {
-        return 255;
-    };
-    let Ok(line) = line.mapped(&face, &mut rows, &mut positions) else {
-        return 255;
-    };
+    let line = Written::new(1, Settings::default()).map_err(|_| Fail::new("not written"))?;
+    let line = line
+        .classed(&mut rows)
+        .map_err(|_| Fail::new("not classed"))?;
+    let line = line
+        .mapped(&face, &mut rows, &mut positions)
+        .map_err(|_| Fail::new("not mapped"))?;
     rows[0].code = code;
     positions[0] = position;
-    match line.spaced(&face, &rows, &mut positions) {
-        Ok(_line) => 0,
-        Err(refused) => refused.refusal.number(),
-    }
+    let spaced = line.spaced(&face, &rows, &mut positions);
+    Ok(spaced.map_or_else(|refused| u8::from(refused.refusal), |_| 0))
 }
 
 #[test]
@@ -75,26 +58,25 @@ fn signs(rt: HostRuntime) {
 
 #[test]
 fn lengths(rt: HostRuntime) -> Result<(), Fail> {
-    assert!(rt; Written::new(256, SETTINGS).is_ok());
-    assert!(rt; Written::new(257, SETTINGS).is_err());
+    assert!(rt; Written::new(256, Settings::default()).is_ok());
+    assert!(rt; Written::new(257, Settings::default()).is_err());
     let glyphs: [GlyphRecord; 1] = [boxed(1, 600, [0, 0, 600, 700])];
-    let Ok(face) = RecordFace::new(1000, &glyphs, &[]) else {
-        return Err(Fail::new("refused"));
-    };
+    let face = RecordFace::new(1000, &glyphs, &[]).map_err(|_| Fail::new("refused"))?;
     let mut rows = [row(65, 9), row(66, 30)];
     let mut positions = [at(7, 8)];
-    assert!(rt; route_line(&face, SETTINGS, &mut rows, &mut positions).is_err());
+    assert!(rt; route_line(&face, Settings::default(), &mut rows, &mut positions).is_err());
     assert!(rt; rows[1].unicode_props == 30 && positions[0].x_offset == 8);
     Ok(())
 }
 
 #[test]
-fn bounds_of_a_line(rt: HostRuntime) {
-    assert_eq!(rt; spaced_number(65535, at(65535, 40000000)), 0);
-    assert_eq!(rt; spaced_number(65535, at(-65535, -40000000)), 0);
-    assert_eq!(rt; spaced_number(65536, at(0, 0)), 16);
-    assert_eq!(rt; spaced_number(0, at(65536, 0)), 16);
-    assert_eq!(rt; spaced_number(0, at(-65536, 0)), 16);
-    assert_eq!(rt; spaced_number(0, at(0, 40000001)), 16);
-    assert_eq!(rt; spaced_number(0, at(0, -2147483648)), 16);
+fn bounds_of_a_line(rt: HostRuntime) -> Result<(), Fail> {
+    assert_eq!(rt; spaced_number(65535, at(65535, 40000000))?, 0);
+    assert_eq!(rt; spaced_number(65535, at(-65535, -40000000))?, 0);
+    assert_eq!(rt; spaced_number(65536, at(0, 0))?, 16);
+    assert_eq!(rt; spaced_number(0, at(65536, 0))?, 16);
+    assert_eq!(rt; spaced_number(0, at(-65536, 0))?, 16);
+    assert_eq!(rt; spaced_number(0, at(0, 40000001))?, 16);
+    assert_eq!(rt; spaced_number(0, at(0, -2147483648))?, 16);
+    Ok(())
 }

@@ -6,17 +6,11 @@ use std::test::Fail;
 
 // The number of the refusal, 0 where the face is made.
 fn face_number<'a>(em: u32, glyphs: &'a [GlyphRecord], codes: &'a [CodeRecord]) -> u8 {
-    match RecordFace::new(em, glyphs, codes) {
-        Ok(_face) => 0,
-        Err(refusal) => refusal.number(),
-    }
+    RecordFace::new(em, glyphs, codes).map_or_else(u8::from, |_| 0)
 }
 
 fn box_number(left: i16, bottom: i16, right: i16, top: i16) -> u8 {
-    match Bounds::new(left, bottom, right, top) {
-        Ok(_bounds) => 0,
-        Err(refusal) => refusal.number(),
-    }
+    Bounds::new(left, bottom, right, top).map_or_else(u8::from, |_| 0)
 }
 
 fn bare(glyph: u16) -> GlyphRecord {
@@ -115,9 +109,7 @@ fn answers(rt: HostRuntime) -> Result<(), Fail> {
         CodeRecord { code: 32, glyph: 3 },
         CodeRecord { code: 65, glyph: 1 },
     ];
-    let Ok(face) = RecordFace::new(1000, &glyphs, &codes) else {
-        return Err(Fail::new("refused"));
-    };
+    let face = RecordFace::new(1000, &glyphs, &codes).map_err(|_| Fail::new("refused"))?;
     assert_eq!(rt; face.em(), 1000);
     assert_eq!(rt; face.glyph(32), Some(3));
     assert_eq!(rt; face.glyph(65), Some(1));
@@ -129,9 +121,7 @@ fn answers(rt: HostRuntime) -> Result<(), Fail> {
     assert_eq!(rt; face.down(65535), 0);
     assert!(rt; face.bounds(3).is_none());
     assert!(rt; face.bounds(8).is_none());
-    let Some(narrow) = face.bounds(9) else {
-        return Err(Fail::new("no box"));
-    };
+    let narrow = face.bounds(9).ok_or_else(|| Fail::new("no box"))?;
     assert_eq!(rt; narrow.left(), -5);
     assert_eq!(rt; narrow.bottom(), -6);
     assert_eq!(rt; narrow.right(), -5);
@@ -146,9 +136,7 @@ fn unplaced(rt: HostRuntime) -> Result<(), Fail> {
         boxed(2, 300, [0, 0, 300, 60]),
         bare(3),
     ];
-    let Ok(face) = RecordFace::new(1000, &glyphs, &[]) else {
-        return Err(Fail::new("refused"));
-    };
+    let face = RecordFace::new(1000, &glyphs, &[]).map_err(|_| Fail::new("refused"))?;
     let across = Direction::LeftToRight;
     assert!(rt; position_one_mark(&face, 1, 2, 220, across).is_some());
     assert!(rt; position_one_mark(&face, 1, 2, 255, across).is_some());

@@ -1,8 +1,22 @@
 -- What a table of classes gives, and the class that is got from it.
-use Rattle.std.proofs.Common.{◌≡◌, ℕ, ◌/◌, ◌≤◌, Bool, true, cond, ◌&&◌, eqb, leb, ◌⊎◌, List, [], ◌∷◌, ◌++◌, sym, refl, ap, subst, inl, inr, ⊎_elim, arith}
+use Rattle.std.proofs.Common.{◌≡◌, ℕ, ◌/◌, ◌≤◌, Bool, true, false, cond, ◌&&◌, ◌==◌, eqb, leb, ◌⊎◌, Option, Some, None, List, [], ◌∷◌, ◌++◌, sym, refl, ap, subst, inl, inr, ⊎_elim, arith}
 use Rattle.std.proofs.lemmas.Bool.{and_parts, cond_both, cond-true, cond-false, eqb-true, ne_eqb, leb-true, le-leb}
+use Rattle.std.specs.List.{find}
 use Rattle.signs.specs.Classes.{lookup, script_classes, thai_marks, lao_marks, by_script, by_code, recategorized}
 use Rattle.signs.specs.Laws.{is_place, ClassesStand}
+
+-- what an entry gives, or another class where there is none
+abbrev pub class_in : ℕ → Option (ℕ × ℕ) → ℕ
+class_in otherwise None = otherwise
+class_in otherwise (Some e) = e.1
+
+pub lookup_find : (wanted otherwise : ℕ) (t : List (ℕ × ℕ)) → lookup wanted otherwise t ≡ class_in otherwise (find (λ e. e.0 == wanted) t)
+lookup_find wanted otherwise [] = refl
+lookup_find wanted otherwise (e ∷ es) =
+    elim (e.0 == wanted) as (λ b. cond b e.1 (lookup wanted otherwise es) ≡ class_in otherwise (cond b (Some e) (find (λ x. x.0 == wanted) es))) [
+      | true ↦ refl
+      | false ↦ lookup_find wanted otherwise es
+    ]
 
 -- every entry gives the class of a place
 abbrev pub all_places : List (ℕ × ℕ) → Bool

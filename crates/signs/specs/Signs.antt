@@ -6,7 +6,7 @@ use Rattle.signs.specs.Props.{has_category, has_class}
 use Rattle.signs.specs.Rows.{row_from}
 
 abbrev pub row_of : Sign → SignRow
-row_of s = row_from s.code s.unicode_props s.glyph_props s.lig_props
+row_of s = s.row
 
 -- The row of the sign with these numbers, or the smallest number of a refusal that fits.
 abbrev pub sign_outcome : ℕ → ℕ → ℕ → ℕ → Result SignRow ℕ

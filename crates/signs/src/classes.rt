@@ -72,12 +72,10 @@ const THAI_AND_LAO_MARKS: [(u32, u8); 18] = [
 fn look_up(table: &[(u32, u8)], wanted: u32, otherwise: u8) -> u8
     ensures { result ≡ lookup wanted otherwise table.now }
 {
-    for (number, class) in table {
-        if *number == wanted {
-            return *class;
-        }
-    }
-    otherwise
+    table
+        .iter()
+        .find(|entry| entry.0 == wanted)
+        .map_or(otherwise, |entry| entry.1)
 }
 
 // Thai and Lao marks are placed by their code, where it says more than their class.

@@ -2,22 +2,18 @@
 ghost use Rattle.std.specs.Prelude.{◌≡◌};
 ghost use Rattle.signs.specs.Refusals.{number_of};
 
+// The discriminants are the numbers by which callers know them.
 #[derive(Clone, Copy, PartialEq, Eq, Debug)]
 pub enum Refusal {
-    CodeTooLarge,
-    UnknownCategory,
-    UnknownClass,
+    CodeTooLarge = 10,
+    UnknownCategory = 11,
+    UnknownClass = 12,
 }
 
-impl Refusal {
-    // The number by which callers know it.
-    pub fn number(self) -> u8
-        ensures { result ≡ number_of self }
-    {
-        match self {
-            Refusal::CodeTooLarge => 10,
-            Refusal::UnknownCategory => 11,
-            Refusal::UnknownClass => 12,
-        }
+impl From<Refusal> for u8 {
+    ghost from_gives = { λ e n. n ≡ number_of e };
+
+    fn from(refusal: Refusal) -> u8 {
+        refusal as u8
     }
 }

@@ -1,6 +1,6 @@
 // A sign as it lies in the list of a line: plain numbers, which reading checks.
 #[repr(C)]
-#[derive(Clone, Copy, PartialEq, Eq, Debug)]
+#[derive(Clone, Copy, PartialEq, Eq, Debug, Default)]
 pub struct SignRow {
     // A code point and, once the line is mapped, the number of a glyph.
     pub code: u32,

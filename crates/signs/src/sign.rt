@@ -2,15 +2,14 @@
 ghost use Rattle.std.specs.Prelude.{◌≡◌, true};
 ghost use Rattle.signs.specs.Props.{is_allowed};
 
+use crate::row::SignRow;
+
 pub mod classed;
 pub mod made;
 pub mod readings;
 
 #[derive(Clone, Copy, PartialEq, Eq, Debug)]
 pub struct Sign {
-    code: u32,
-    unicode_props: u16,
-    glyph_props: u16,
-    lig_props: u8,
-    ghost allowed: { is_allowed unicode_props ≡ true },
+    row: SignRow,
+    ghost allowed: { is_allowed row.unicode_props ≡ true },
 }

@@ -4,7 +4,6 @@ ghost use Rattle.faces.specs.Recorded.{recorded_meaning};
 
 use crate::bounds::Bounds;
 use crate::face::Face;
-use crate::keyed::find;
 use crate::record_face::RecordFace;
 
 impl<'a> Face for RecordFace<'a> {
@@ -17,30 +16,23 @@ impl<'a> Face for RecordFace<'a> {
     }
 
     fn glyph(&self, code: u32) -> Option<u16> {
-        match find(self.codes, code) {
-            Some(record) => Some(record.glyph),
-            None => None,
-        }
+        self.codes.find(code).map(|record| record.glyph)
     }
 
     fn across(&self, glyph: u16) -> u16 {
-        match find(self.glyphs, glyph as u32) {
-            Some(record) => record.across,
-            None => 0,
-        }
+        self.glyphs
+            .find(glyph as u32)
+            .map_or(0, |record| record.across)
     }
 
     fn down(&self, glyph: u16) -> i32 {
-        match find(self.glyphs, glyph as u32) {
-            Some(record) => -(record.down as i32),
-            None => 0,
-        }
+        self.glyphs
+            .find(glyph as u32)
+            .map_or(0, |record| -(record.down as i32))
     }
 
     fn bounds(&self, glyph: u16) -> Option<Bounds> {
-        let Some(record) = find(self.glyphs, glyph as u32) else {
-            return None;
-        };
+        let record = self.glyphs.find(glyph as u32)?;
         if !record.has_box {
             return None;
         }

@@ -4,7 +4,7 @@ ghost use Rattle.faces.specs.Recorded.{recorded_meaning};
 ghost use Rattle.faces.specs.Records.{record_outcome};
 ghost use Rattle.faces.specs.Refusals.{outcome};
 
-use crate::keyed::{all_sound, is_rising};
+use crate::keyed::rising::Rising;
 use crate::record_face::RecordFace;
 use crate::records::{CodeRecord, GlyphRecord};
 use crate::refusal::Refusal;
@@ -21,13 +21,12 @@ impl<'a> RecordFace<'a> {
         if em < 16 || em > 16384 {
             return Err(Refusal::EmOutsideLimits);
         }
-        if !is_rising(glyphs) || !is_rising(codes) {
-            return Err(Refusal::NotRising);
-        }
-        if !all_sound(glyphs) {
+        let glyphs = Rising::new(glyphs).ok_or(Refusal::NotRising)?;
+        let codes = Rising::new(codes).ok_or(Refusal::NotRising)?;
+        if !glyphs.all_sound() {
             return Err(Refusal::CrossedEdges);
         }
-        if !all_sound(codes) {
+        if !codes.all_sound() {
             return Err(Refusal::BadCode);
         }
         Ok(RecordFace {

@@ -2,25 +2,29 @@
 ghost use Rattle.std.specs.Prelude.{◌≡◌, List, IsOkAnd};
 ghost use Rattle.faces.specs.Meaning.{FaceMeaning, Keeps};
 ghost use Rattle.incident.specs.Story.{Seen, Told};
-ghost use Rattle.legends.specs.Leaves.{left_by, state};
+ghost use Rattle.legends.specs.Leaves.{left_by};
+ghost use Rattle.legends.specs.Lent.{state_seen};
 ghost use Rattle.legends.specs.declared.Call.{Call};
 
-use crate::places::{NO_ITEM, NO_SIGN, NOWHERE, START};
 use crate::reports::{BAR_BENEATH, BAR_OVER, LETTER};
 use crate::story::Story;
-use drawings::Item;
+use drawings::{Item, Pen, Room};
 use faces::Face;
-use legends::{Legend, Refusal};
+use legends::{Legend, Lists, Refusal, View};
 use placement::{Direction, Position, Settings};
 use signs::SignRow;
 
 // What is seen of a legend of two signs. After calls it is never refused.
-fn seen(legend: &Legend, signs: &[SignRow], mapped: &[SignRow], positions: &[Position]) -> [Item; 2]
-    ensures { (f : FaceMeaning) → Keeps f → (calls : List Call) → state legend.now signs.now mapped.now positions.now ≡ left_by f 2 calls → Seen f calls result }
+fn seen(legend: &Legend, view: &View) -> [Item; 2]
+    ensures { (f : FaceMeaning) → Keeps f → (calls : List Call) → state_seen legend.now view.now ≡ left_by f 2 calls → Seen f calls result }
 {
-    let mut items = [NO_ITEM; 2];
-    let mut pens = [START; 2];
-    let _ = legend.draw(signs, mapped, positions, &mut items, &mut pens);
+    let mut items = [Item::default(); 2];
+    let mut pens = [Pen::default(); 2];
+    let mut room = Room {
+        items: &mut items,
+        pens: &mut pens,
+    };
+    let _ = legend.draw(view, &mut room);
     items
 }
 
@@ -28,31 +32,38 @@ fn seen(legend: &Legend, signs: &[SignRow], mapped: &[SignRow], positions: &[Pos
 pub fn tell<F: Face>(face: &F) -> Result<Story, Refusal>
     ensures { IsOkAnd result (Told (F.meaning face.now)) }
 {
-    let mut signs = [NO_SIGN; 2];
-    let mut mapped = [NO_SIGN; 2];
-    let mut positions = [NOWHERE; 2];
-    let mut legend = Legend::make(face, 2, &mut signs, &mut mapped, &mut positions)?;
-    let blank = seen(&legend, &signs, &mapped, &positions);
-    legend.put(face, &mut signs, &mut mapped, &mut positions, 0, LETTER)?;
-    let letter = seen(&legend, &signs, &mapped, &positions);
-    legend.put(face, &mut signs, &mut mapped, &mut positions, 1, BAR_OVER)?;
-    let locked = seen(&legend, &signs, &mapped, &positions);
-    legend.put(
-        face,
-        &mut signs,
-        &mut mapped,
-        &mut positions,
-        1,
-        BAR_BENEATH,
-    )?;
-    let closed = seen(&legend, &signs, &mapped, &positions);
+    let mut signs = [SignRow::default(); 2];
+    let mut mapped = [SignRow::default(); 2];
+    let mut positions = [Position::default(); 2];
+    let mut lists = Lists {
+        signs: &mut signs,
+        mapped: &mut mapped,
+        positions: &mut positions,
+    };
+    let mut legend = Legend::make(face, 2, &mut lists)?;
+    let blank = seen(&legend, &lists.view());
+    legend.put(face, &mut lists, 0, LETTER)?;
+    let letter = seen(&legend, &lists.view());
+    legend.put(face, &mut lists, 1, BAR_OVER)?;
+    let locked = seen(&legend, &lists.view());
+    legend.put(face, &mut lists, 1, BAR_BENEATH)?;
+    let closed = seen(&legend, &lists.view());
     let leftward = Settings {
         direction: Direction::RightToLeft,
-        script: 0,
-        adjust: false,
+        ..Settings::default()
     };
-    legend.turn(face, &signs, &mut mapped, &mut positions, leftward)?;
-    let turned = seen(&legend, &signs, &mapped, &positions);
+    let Lists {
+        signs,
+        mapped,
+        positions,
+    } = lists;
+    legend.turn(face, signs, mapped, positions, leftward)?;
+    let view = View {
+        signs,
+        mapped,
+        positions,
+    };
+    let turned = seen(&legend, &view);
     Ok(Story {
         blank,
         letter,

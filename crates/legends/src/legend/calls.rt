@@ -1,14 +1,16 @@
 // Making, putting and turning. Each call leaves the lists it is lent as they were where it refuses.
-ghost use Rattle.std.specs.Prelude.{◌≡◌, true, length, is_ok, if◌then◌else◌};
+ghost use Rattle.std.specs.Prelude.{◌≡◌, length, is_ok, if◌then◌else◌};
 ghost use Rattle.legends.specs.Answers.{make_answer, put_answer, turn_answer};
-ghost use Rattle.legends.specs.Fits.{Fit, fit};
-ghost use Rattle.legends.specs.Leaves.{InStep, Made, after_make, after_put, after_turn, left_if, lists, lists_of, state};
+ghost use Rattle.legends.specs.Leaves.{InStep, after_make, after_put, after_turn, left_if, lists_of, state};
+ghost use Rattle.legends.specs.Lent.{Made, SameLists, state_of, three_lists};
 
 use crate::legend::Legend;
+use crate::lists::Lists;
+use crate::lists::parts::{copy_part, fitting};
 use crate::refusal::Refusal;
 use crate::span::span;
 use faces::Face;
-use placement::{Direction, MOST_SIGNS, Position, Settings, lines_stand, route_line};
+use placement::{Position, Settings, lines_stand, route_line};
 use signs::SignRow;
 
 // What a sign is until one is put in its place: a space.
@@ -19,38 +21,21 @@ const BLANK: SignRow = SignRow {
     lig_props: 0,
 };
 
-// Whether a legend of len signs may be worked on with lists of these lengths.
-pub(crate) fn fitting(len: usize, signs: usize, mapped: usize, positions: usize) -> bool
-    ensures value { result ≡ fit len signs mapped positions }
-    ensures lengths { result ≡ true → Fit len signs mapped positions }
-{
-    len <= MOST_SIGNS && signs == len && mapped == len && positions == len
-}
-
 impl Legend {
     // A legend of len signs, all blank, and its lists.
-    pub fn make<F: Face>(
-        face: &F,
-        len: usize,
-        signs: &mut [SignRow],
-        mapped: &mut [SignRow],
-        positions: &mut [Position],
-    ) -> Result<Legend, Refusal>
-        ensures answer { result ≡ make_answer len (length signs.old) (length mapped.old) (length positions.old) }
-        ensures lists { lists signs.new mapped.new positions.new ≡ (if is_ok result then lists_of (after_make (F.meaning face.now) len) else lists signs.old mapped.old positions.old) }
-        ensures made { Made result signs.new mapped.new positions.new (after_make (F.meaning face.now) len) }
+    pub fn make<F: Face>(face: &F, len: usize, lists: &mut Lists) -> Result<Legend, Refusal>
+        ensures answer { result ≡ make_answer len (length lists.old.signs.now) (length lists.old.mapped.now) (length lists.old.positions.now) }
+        ensures lists { three_lists lists.new ≡ (if is_ok result then lists_of (after_make (F.meaning face.now) len) else three_lists lists.old) }
+        ensures made { Made result lists.new (after_make (F.meaning face.now) len) }
+        ensures same { SameLists lists.old lists.new }
     {
-        if !fitting(len, signs.len(), mapped.len(), positions.len()) {
+        if !lists.fit(len) {
             return Err(Refusal::Length);
         }
-        let settings = Settings {
-            direction: Direction::LeftToRight,
-            script: 0,
-            adjust: false,
-        };
-        signs.fill(BLANK);
-        mapped.copy_from_slice(signs);
-        route_line(face, settings, mapped, positions)?;
+        let settings = Settings::default();
+        lists.signs.fill(BLANK);
+        lists.mapped.fill(BLANK);
+        route_line(face, settings, lists.mapped, lists.positions)?;
         Ok(Legend { len, settings })
     }
 
@@ -58,36 +43,37 @@ impl Legend {
     pub fn put<F: Face>(
         &self,
         face: &F,
-        signs: &mut [SignRow],
-        mapped: &mut [SignRow],
-        positions: &mut [Position],
+        lists: &mut Lists,
         place: usize,
         row: SignRow,
     ) -> Result<(), Refusal>
-        ensures answer { result ≡ put_answer place (state self.now signs.old mapped.old positions.old) }
-        ensures lists { state self.now signs.new mapped.new positions.new ≡ left_if (is_ok result) (after_put (F.meaning face.now) place row) (state self.now signs.old mapped.old positions.old) }
-        ensures step { InStep (F.meaning face.now) (state self.now signs.old mapped.old positions.old) → InStep (F.meaning face.now) (state self.now signs.new mapped.new positions.new) }
+        ensures answer { result ≡ put_answer place (state_of self.now lists.old) }
+        ensures lists { state_of self.now lists.new ≡ left_if (is_ok result) (after_put (F.meaning face.now) place row) (state_of self.now lists.old) }
+        ensures step { InStep (F.meaning face.now) (state_of self.now lists.old) → InStep (F.meaning face.now) (state_of self.now lists.new) }
+        ensures same { SameLists lists.old lists.new }
     {
-        if !fitting(self.len, signs.len(), mapped.len(), positions.len()) {
+        if !lists.fit(self.len) {
             return Err(Refusal::Length);
         }
         if place >= self.len {
             return Err(Refusal::NoPlace);
         }
-        let _ = lines_stand();
+        lines_stand();
+        let signs = &mut *lists.signs;
         let (first, end) = span(signs, place);
         signs[place] = row;
-        mapped[first..end].copy_from_slice(&signs[first..end]);
+        copy_part(signs, lists.mapped, first, end);
         route_line(
             face,
             self.settings,
-            &mut mapped[first..end],
-            &mut positions[first..end],
+            &mut lists.mapped[first..end],
+            &mut lists.positions[first..end],
         )?;
         Ok(())
     }
 
-    // Sets the line anew; all signs go their route.
+    // Sets the line anew; all signs go their route. The signs put are only read, so the three are no `Lists`, which
+    // would ask for more.
     pub fn turn<F: Face>(
         &mut self,
         face: &F,

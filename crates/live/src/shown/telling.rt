@@ -7,19 +7,14 @@ use crate::shown::Shown;
 use faces::{Face, RecordFace};
 use incident::{BAR_BENEATH, LETTER, from_blank, tell};
 use legends::Refusal;
-use placement::{Direction, Settings};
+use placement::Settings;
 
 // Over any face it is never refused.
 pub fn over<F: Face>(face: &F) -> Result<Shown, Refusal>
     ensures { IsOkAnd result (ShownOver (F.meaning face.now)) }
 {
     let story = tell(face)?;
-    let settings = Settings {
-        direction: Direction::LeftToRight,
-        script: 0,
-        adjust: false,
-    };
-    let from_blank = from_blank(face, settings, [LETTER, BAR_BENEATH])?;
+    let from_blank = from_blank(face, Settings::default(), [LETTER, BAR_BENEATH])?;
     Ok(Shown { story, from_blank })
 }
 
@@ -27,11 +22,6 @@ pub fn over<F: Face>(face: &F) -> Result<Shown, Refusal>
 pub fn on_the_panel() -> Option<Shown>
     ensures { result ≡ Some on_the_panel }
 {
-    let Ok(face) = RecordFace::new(EM, &GLYPHS, &CODES) else {
-        return None;
-    };
-    let Ok(shown) = over(&face) else {
-        return None;
-    };
-    Some(shown)
+    let face = RecordFace::new(EM, &GLYPHS, &CODES).ok()?;
+    over(&face).ok()
 }

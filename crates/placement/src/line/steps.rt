@@ -6,26 +6,82 @@ ghost use Rattle.placement.specs.Mapped.{map_position, map_row};
 ghost use Rattle.placement.specs.Placements.{placed_line};
 ghost use Rattle.placement.specs.Route.{route};
 ghost use Rattle.placement.specs.Spaces.{spaced_along};
-ghost use Rattle.placement.specs.Steps.{class_answer, fits, map_answer, place_answer, route_answer, space_answer, write_answer};
+ghost use Rattle.placement.specs.Steps.{class_answer, fits, fitted, further, held, map_answer, place_answer, route_answer, space_answer, write_answer};
 ghost use Rattle.signs.specs.Reclassing.{reclassed};
 
 use crate::bounded::all_bounded;
 use crate::classing::class_all;
-use crate::line::{Classed, MOST_SIGNS, Mapped, Placed, Refused, Spaced, Written};
-use crate::mapping::map_all;
+use crate::layout::Layout;
+use crate::line::{Classed, Line, MOST_SIGNS, Mapped, Placed, Refused, Spaced, Written};
 use crate::position::Position;
-use crate::positioning::position_marks;
 use crate::refusal::Refusal;
 use crate::settings::Settings;
-use crate::spaces::fallback_spaces;
 use faces::Face;
 use signs::SignRow;
+use std::marker::PhantomData;
 
 // Whether a line of len signs may be worked on with lists of these lengths.
 fn fitting(len: usize, rows: usize, positions: usize) -> bool
     ensures { result ≡ fits len rows positions }
 {
     len <= MOST_SIGNS && rows == len && positions == len
+}
+
+impl<S> Line<S> {
+    fn refused(self, refusal: Refusal) -> Refused<Self>
+        ensures { result ≡ record { line = self; refusal = refusal } }
+    {
+        Refused {
+            line: self,
+            refusal,
+        }
+    }
+
+    // The line, if these are the lengths of its lists.
+    fn fitted(self, rows: usize, positions: usize) -> Result<Self, Refused<Self>>
+        ensures { result ≡ fitted self self rows positions }
+    {
+        if fitting(self.len, rows, positions) {
+            Ok(self)
+        } else {
+            Err(self.refused(Refusal::Length))
+        }
+    }
+
+    // The line, if these are its lists and hold what a line may hold.
+    fn bounded(self, rows: &[SignRow], positions: &[Position]) -> Result<Self, Refused<Self>>
+        ensures { result ≡ held self self rows.now positions.now }
+    {
+        let line = self.fitted(rows.len(), positions.len())?;
+        if all_bounded(rows, positions) {
+            Ok(line)
+        } else {
+            Err(line.refused(Refusal::OutOfBounds))
+        }
+    }
+
+    // How it is laid out over a face.
+    fn over<'a, F: Face>(&self, face: &'a F) -> Layout<'a, F>
+        ensures face { result.face.now ≡ face.now }
+        ensures settings { result.settings ≡ self.now.settings }
+    {
+        Layout {
+            face,
+            settings: self.settings,
+        }
+    }
+
+    // The line a step further.
+    fn step<T>(self) -> Line<T>
+        ensures { result ≡ further self }
+    {
+        let Line { len, settings, .. } = self;
+        Line {
+            len,
+            settings,
+            step: PhantomData,
+        }
+    }
 }
 
 impl Written {
@@ -36,7 +92,11 @@ impl Written {
         if len > MOST_SIGNS {
             return Err(Refusal::Length);
         }
-        Ok(Written { len, settings })
+        Ok(Line {
+            len,
+            settings,
+            step: PhantomData,
+        })
     }
 
     // Every nonspacing mark gets the class by which it is placed.
@@ -44,15 +104,10 @@ impl Written {
         ensures answer { result ≡ class_answer self (length rows.old) }
         ensures rows { rows.new ≡ (if is_ok result then map reclassed rows.old else rows.old) }
     {
-        if !fitting(self.len, rows.len(), self.len) {
-            return Err(Refused {
-                line: self,
-                refusal: Refusal::Length,
-            });
-        }
+        let len = self.len;
+        let line = self.fitted(rows.len(), len)?;
         class_all(rows);
-        let Written { len, settings } = self;
-        Ok(Classed { len, settings })
+        Ok(line.step())
     }
 }
 
@@ -68,16 +123,9 @@ impl Classed {
         ensures rows { rows.new ≡ (if is_ok result then map (map_row (F.meaning face.now)) rows.old else rows.old) }
         ensures positions { positions.new ≡ (if is_ok result then map (map_position (F.meaning face.now) (is_horizontal self.settings.direction)) rows.old else positions.old) }
     {
-        if !fitting(self.len, rows.len(), positions.len()) {
-            return Err(Refused {
-                line: self,
-                refusal: Refusal::Length,
-            });
-        }
-        let horizontal = self.settings.direction.is_horizontal();
-        map_all(face, horizontal, rows, positions);
-        let Classed { len, settings } = self;
-        Ok(Mapped { len, settings })
+        let line = self.fitted(rows.len(), positions.len())?;
+        line.over(face).map_all(rows, positions);
+        Ok(line.step())
     }
 }
 
@@ -92,22 +140,9 @@ impl Mapped {
         ensures answer { result ≡ space_answer self rows.now positions.old }
         ensures positions { positions.new ≡ (if is_ok result then positions_of (map (spaced_along (F.meaning face.now) (is_horizontal self.settings.direction)) (cells rows.now positions.old)) else positions.old) }
     {
-        if !fitting(self.len, rows.len(), positions.len()) {
-            return Err(Refused {
-                line: self,
-                refusal: Refusal::Length,
-            });
-        }
-        if !all_bounded(rows, positions) {
-            return Err(Refused {
-                line: self,
-                refusal: Refusal::OutOfBounds,
-            });
-        }
-        let horizontal = self.settings.direction.is_horizontal();
-        fallback_spaces(face, horizontal, rows, positions);
-        let Mapped { len, settings } = self;
-        Ok(Spaced { len, settings })
+        let line = self.bounded(rows, positions)?;
+        line.over(face).fallback_spaces(rows, positions);
+        Ok(line.step())
     }
 }
 
@@ -122,21 +157,9 @@ impl Spaced {
         ensures answer { result ≡ place_answer self rows.now positions.old }
         ensures positions { positions.new ≡ (if is_ok result then positions_of (placed_line (F.meaning face.now) self.settings (cells rows.now positions.old)) else positions.old) }
     {
-        if !fitting(self.len, rows.len(), positions.len()) {
-            return Err(Refused {
-                line: self,
-                refusal: Refusal::Length,
-            });
-        }
-        if !all_bounded(rows, positions) {
-            return Err(Refused {
-                line: self,
-                refusal: Refusal::OutOfBounds,
-            });
-        }
-        position_marks(face, self.settings, rows, positions);
-        let Spaced { len, settings } = self;
-        Ok(Placed { len, settings })
+        let line = self.bounded(rows, positions)?;
+        line.over(face).position_marks(rows, positions);
+        Ok(line.step())
     }
 }
 
@@ -155,10 +178,14 @@ pub fn route_line<F: Face>(
     if !fitting(len, len, positions.len()) {
         return Err(Refusal::Length);
     }
-    let horizontal = settings.direction.is_horizontal();
+    let layout = Layout { face, settings };
     class_all(rows);
-    map_all(face, horizontal, rows, positions);
-    fallback_spaces(face, horizontal, rows, positions);
-    position_marks(face, settings, rows, positions);
-    Ok(Placed { len, settings })
+    layout.map_all(rows, positions);
+    layout.fallback_spaces(rows, positions);
+    layout.position_marks(rows, positions);
+    Ok(Line {
+        len,
+        settings,
+        step: PhantomData,
+    })
 }

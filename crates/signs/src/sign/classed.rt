@@ -5,6 +5,7 @@ ghost use Rattle.signs.specs.Signs.{row_of};
 
 use crate::classes::recategorize_combining_class;
 use crate::props::with_class;
+use crate::row::SignRow;
 use crate::sign::Sign;
 
 impl Sign {
@@ -15,12 +16,12 @@ impl Sign {
         if !self.is_nonspacing_mark() {
             return self;
         }
-        let class = recategorize_combining_class(self.code, self.class());
+        let class = recategorize_combining_class(self.row.code, self.class());
         Sign {
-            code: self.code,
-            unicode_props: with_class(self.unicode_props, class),
-            glyph_props: self.glyph_props,
-            lig_props: self.lig_props,
+            row: SignRow {
+                unicode_props: with_class(self.row.unicode_props, class),
+                ..self.row
+            },
         }
     }
 }

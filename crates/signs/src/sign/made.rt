@@ -29,27 +29,28 @@ impl Sign {
             return Err(Refusal::UnknownClass);
         }
         Ok(Sign {
-            code,
-            unicode_props,
-            glyph_props,
-            lig_props,
+            row: SignRow {
+                code,
+                unicode_props,
+                glyph_props,
+                lig_props,
+            },
         })
     }
 
-    // The sign of a row. A row that no sign may have is never refused: it is read as a space of type 18.
+    // The sign of a row. A row that no sign may have is never refused: it is read as a space of type 18. So it is no
+    // `From`, which would say that nothing is lost.
     pub fn read(row: SignRow) -> Sign
         ensures { row_of result ≡ read_row row }
     {
-        let unicode_props = if is_allowed(row.unicode_props) {
-            row.unicode_props
-        } else {
-            4637
-        };
+        if is_allowed(row.unicode_props) {
+            return Sign { row };
+        }
         Sign {
-            code: row.code,
-            unicode_props,
-            glyph_props: row.glyph_props,
-            lig_props: row.lig_props,
+            row: SignRow {
+                unicode_props: 4637,
+                ..row
+            },
         }
     }
 
@@ -57,11 +58,6 @@ impl Sign {
     pub fn row(self) -> SignRow
         ensures { result ≡ row_of self }
     {
-        SignRow {
-            code: self.code,
-            unicode_props: self.unicode_props,
-            glyph_props: self.glyph_props,
-            lig_props: self.lig_props,
-        }
+        self.row
     }
 }

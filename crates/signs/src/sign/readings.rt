@@ -10,27 +10,27 @@ impl Sign {
     pub fn category(self) -> u8
         ensures { result ≡ category (row_of self) }
     {
-        category_of(self.unicode_props)
+        category_of(self.row.unicode_props)
     }
 
     // Of a mark, its combining class.
     pub fn class(self) -> u8
         ensures { result ≡ class (row_of self) }
     {
-        class_of(self.unicode_props)
+        class_of(self.row.unicode_props)
     }
 
     // Of a space, which space it is.
     pub fn space_type(self) -> u8
         ensures { result ≡ space_type (row_of self) }
     {
-        class_of(self.unicode_props)
+        class_of(self.row.unicode_props)
     }
 
     pub fn is_mark(self) -> bool
         ensures { result ≡ is_mark (row_of self) }
     {
-        is_mark_of(self.unicode_props)
+        is_mark_of(self.row.unicode_props)
     }
 
     pub fn is_nonspacing_mark(self) -> bool
@@ -49,28 +49,28 @@ impl Sign {
     pub fn is_ligated(self) -> bool
         ensures { result ≡ is_ligated (row_of self) }
     {
-        self.glyph_props / 0x20 % 2 == 1
+        self.row.glyph_props / 0x20 % 2 == 1
     }
 
     // Whether the font has the sign as a ligature.
     fn is_ligature(self) -> bool
         ensures { result ≡ is_ligature (row_of self) }
     {
-        self.glyph_props / 0x04 % 2 == 1
+        self.row.glyph_props / 0x04 % 2 == 1
     }
 
     // Whether the sign is its ligature, and not a mark on a component.
     fn is_lig_base(self) -> bool
         ensures { result ≡ is_lig_base (row_of self) }
     {
-        self.lig_props / 0x10 % 2 == 1
+        self.row.lig_props / 0x10 % 2 == 1
     }
 
     // The ligature that the sign belongs to; 0 for none.
     pub fn lig_id(self) -> u8
         ensures { result ≡ lig_id (row_of self) }
     {
-        self.lig_props >> 5
+        self.row.lig_props >> 5
     }
 
     // The ligature component that a mark stands on; 0 for none.
@@ -80,7 +80,7 @@ impl Sign {
         if self.is_lig_base() {
             0
         } else {
-            self.lig_props % 16
+            self.row.lig_props % 16
         }
     }
 
@@ -89,7 +89,7 @@ impl Sign {
         ensures { result ≡ lig_num_comps (row_of self) }
     {
         if self.is_lig_base() && self.is_ligature() {
-            self.lig_props % 16
+            self.row.lig_props % 16
         } else {
             1
         }

@@ -6,4 +6,4 @@ use Rattle.drawings.proofs.drawing.set_pens.Given as goal
 abbrev pub invariant-loop-k : goal.invariant-loop-k
 invariant-loop-k l =
     (l.pen ≡ pen_after l.forward l.positions l.k)
-    × ((j : ℕ) → j < l.k → get_or l.pens j start ≡ pen_after l.forward l.positions j)
+    × ((j : ℕ) → j < l.k → get_or l.noted-items j start ≡ pen_after l.forward l.positions j)

@@ -1,10 +1,16 @@
-use Rattle.std.proofs.Common.{ap, ◌∙◌}
-use Rattle.signs.specs.Rows.{is_mark}
-use Rattle.legends.proofs.Spans.{before_mark, before_base}
+use Rattle.std.proofs.Common.{take, sym, ◌∙◌, arith, rules}
+use Rattle.std.proofs.iter.runs.Made.{chains}
+use Rattle.legends.proofs.Spans.{before_front, before_none, before_last}
 use Rattle.legends.proofs.span.end_before.Goals as goal
 
-pub returns-then-not-is_mark : goal.returns-then-not-is_mark
-returns-then-not-is_mark c = before_base c.args.rows.now c.loop-k.k c.loop-k-test.true (c.if-not-is_mark.ensures ∙ ap is_mark c.read.ensures) ∙ c.loop-k.invariant
+pub returns-in-Some : goal.returns-in-Some
+returns-in-Some c =
+    let rows = c.args.rows.now in
+    let place = c.args.place in
+    sym (before_last (take place rows) place c.in-Some.k (search rules) (search (rules, chains)) (search (rules, chains))) ∙ before_front rows place place (omega arith)
 
-pub loop-k-preserved : goal.loop-k-preserved
-loop-k-preserved c = before_mark c.args.rows.now c.loop-k.k c.loop-k-test.true (c.if-not-is_mark.ensures ∙ ap is_mark c.read.ensures) ∙ c.loop-k.invariant
+pub returns-in-None : goal.returns-in-None
+returns-in-None c =
+    let rows = c.args.rows.now in
+    let place = c.args.place in
+    sym (before_none (take place rows) place (search (rules, chains))) ∙ before_front rows place place (omega arith)

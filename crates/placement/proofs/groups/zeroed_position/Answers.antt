@@ -1,9 +1,15 @@
-use Rattle.std.proofs.Common.{Bool, sym, refl, ap, ◌∙◌, arith}
+use Rattle.std.proofs.Common.{◌∙◌, arith, rules}
 use Rattle.std.proofs.lemmas.Int.{ints}
-use Rattle.placement.specs.Placements.{zeroed_position}
+use Rattle.placement.specs.Placements.{less}
+use Rattle.placement.proofs.Computed.{again_both, again_same}
 use Rattle.placement.proofs.Fields.{same_at}
 use Rattle.placement.proofs.groups.zeroed_position.Goals as goal
 
-pub returns-then-adjust : goal.returns-then-adjust
-returns-then-adjust c =
-    same_at refl refl (omega (arith, ints)) (omega (arith, ints)) ∙ sym (ap (λ (t : Bool). zeroed_position t c.args.position) c.if-adjust.true)
+pub returns : goal.returns
+returns c =
+    let p = c.args.position in
+    let light = c.requires in
+    let zero = c.default.ensures in
+    same_at (omega (arith, ints)) (omega (arith, ints))
+    (again_same c.less.result (search rules) ∙ c.less.ensures ∙ again_both (less c.args.adjust) p.x_offset p.x_advance (omega (arith, ints)) (omega (arith, ints)))
+    (again_same c.less-2.result (search rules) ∙ c.less-2.ensures ∙ again_both (less c.args.adjust) p.y_offset p.y_advance (omega (arith, ints)) (omega (arith, ints)))

@@ -15,19 +15,20 @@ use Rattle.legends.proofs.legend.Legend.draw.Goals as goal
 never : {P : Type 0} → false ≡ true → P
 never e = let z : ◌≡◌ {A = ℕ} 0 1 = cc in absurd (omega arith)
 
-pub returns-then-not-fitting : goal.returns-then-not-fitting
-returns-then-not-fitting c =
+pub returns-then-not-fit : goal.returns-then-not-fit
+returns-then-not-fit c =
     let l = c.args.self.now in
-    let signs = c.args.signs.now in
-    let mapped = c.args.mapped.now in
-    let positions = c.args.positions.now in
-    let room = length c.args.items.now in
-    let pens = length c.args.pens.now in
+    let signs = c.args.view.now.signs.now in
+    let mapped = c.args.view.now.mapped.now in
+    let positions = c.args.view.now.positions.now in
+    let room = length c.args.room.now.items.now in
+    let pens = length c.args.room.now.pens.now in
     let answer : Err Length ≡ draw_answer room pens (bounded mapped positions) (state l signs mapped positions) = search rules in
     record {
       answer = answer;
       items = refl;
       pens = refl;
+      same = record { items = refl; pens = refl };
       decided = λ f keeps n calls left. decided c.histories_stand.ensures f n calls l signs mapped positions left keeps room pens (Err Length) answer;
       look = λ f keeps n calls left ok. never ok;
     }
@@ -35,23 +36,24 @@ returns-then-not-fitting c =
 pub returns-in_err-draw_line : goal.returns-in_err-draw_line
 returns-in_err-draw_line c =
     let l = c.args.self.now in
-    let signs = c.args.signs.now in
-    let mapped = c.args.mapped.now in
-    let positions = c.args.positions.now in
-    let room = length c.args.items.now in
-    let pens = length c.args.pens.now in
-    let fit = c.if-not-fitting.ensures in
+    let signs = c.args.view.now.signs.now in
+    let mapped = c.args.view.now.mapped.now in
+    let positions = c.args.view.now.positions.now in
+    let room = length c.args.room.now.items.now in
+    let pens = length c.args.room.now.pens.now in
+    let fit = c.if-not-fit.ensures in
     let refused = c.in_err-draw_line.ensures in
     let e = c.in_err-draw_line.field-0.0 in
     let r = c.from_residual.result in
     let by = err_from_is_err_and r c.from_residual.ensures.1 in
     let is : r ≡ Err (from_drawing e) = by.1 ∙ ap Err by.2 in
     let answer = is ∙ answer_rises l signs mapped positions (fit.lengths refl) (sym fit.value) room pens (Err e) refused.answer in
-    let items = c.args.items.now in
+    let items = c.args.room.now.items.now in
     record {
       answer = answer;
       items = refused.items ∙ sym (ap (λ (a : Result (Unit {0}) Refusal). cond (is_ok a) (drawn_over l.settings mapped positions items) items) is);
-      pens = subst (λ (a : Result (Unit {0}) Refusal). PensAfter (is_ok a) c.args.pens.now c.draw_line.new.pens) (sym is) refused.pens;
+      pens = subst (λ (a : Result (Unit {0}) Refusal). PensAfter (is_ok a) c.args.room.now.pens.now c.draw_line.new.room.pens.now) (sym is) refused.pens;
+      same = refused.same;
       decided = λ f keeps n calls left. decided c.histories_stand.ensures f n calls l signs mapped positions left keeps room pens r answer;
       look = λ f keeps n calls left ok. never (sym (ap is_ok is) ∙ ok);
     }
@@ -59,18 +61,19 @@ returns-in_err-draw_line c =
 pub returns : goal.returns
 returns c =
     let l = c.args.self.now in
-    let signs = c.args.signs.now in
-    let mapped = c.args.mapped.now in
-    let positions = c.args.positions.now in
-    let room = length c.args.items.now in
-    let pens = length c.args.pens.now in
-    let fit = c.if-not-fitting.ensures in
+    let signs = c.args.view.now.signs.now in
+    let mapped = c.args.view.now.mapped.now in
+    let positions = c.args.view.now.positions.now in
+    let room = length c.args.room.now.items.now in
+    let pens = length c.args.room.now.pens.now in
+    let fit = c.if-not-fit.ensures in
     let drawn = c.in_ok-draw_line.ensures in
     let answer = answer_rises l signs mapped positions (fit.lengths refl) (sym fit.value) room pens (Ok tt) drawn.answer in
     record {
       answer = answer;
       items = drawn.items;
       pens = drawn.pens;
+      same = drawn.same;
       decided = λ f keeps n calls left. decided c.histories_stand.ensures f n calls l signs mapped positions left keeps room pens (Ok tt) answer;
-      look = λ f keeps n calls left ok. looks c.histories_stand.ensures f n calls l signs mapped positions left keeps (fit.lengths refl) c.args.items.now c.draw_line.new.items drawn.items;
+      look = λ f keeps n calls left ok. looks c.histories_stand.ensures f n calls l signs mapped positions left keeps (fit.lengths refl) c.args.room.now.items.now c.draw_line.new.room.items.now drawn.items;
     }

@@ -8,6 +8,6 @@ use Rattle.signs.proofs.sign.Sign.recategorized.Goals as goal
 pub invariant_of-result : goal.invariant_of-result
 invariant_of-result c =
     let s = c.args.self in
-    let mark : eqb (category_of s.unicode_props) 12 ≡ true = sym c.if-not-is_nonspacing_mark.ensures in
-    let e = c.with_class.ensures ∙ ap (with_class s.unicode_props) (c.recategorize_combining_class-class.ensures ∙ ap (recategorized s.code) c.class.ensures) in
-    record { allowed = subst (λ p. is_allowed p ≡ true) (sym e) (classed_allowed s.code s.unicode_props s.allowed mark) }
+    let mark : eqb (category_of s.row.unicode_props) 12 ≡ true = sym c.if-not-is_nonspacing_mark.ensures in
+    let e = c.with_class.ensures ∙ ap (with_class s.row.unicode_props) (c.recategorize_combining_class-class.ensures ∙ ap (recategorized s.row.code) c.class.ensures) in
+    record { allowed = subst (λ p. is_allowed p ≡ true) (sym e) (classed_allowed s.row.code s.row.unicode_props s.allowed mark) }

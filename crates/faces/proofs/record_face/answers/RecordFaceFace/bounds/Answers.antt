@@ -12,15 +12,15 @@ use Rattle.faces.proofs.record_face.answers.RecordFaceFace.bounds.Goals as goal
 
 pub returns : goal.returns
 returns c =
-    let r = c.in-Some.record in
-    let found = c.in-Some.ensures in
+    let r = c.in_ok-record.record in
+    let found = sym c.in_ok-record.was ∙ c.find.ensures in
     let l : SFits w16 r.left = search rules in
     let b : SFits w16 r.bottom = search rules in
     let a : SFits w16 r.right = search rules in
     let t : SFits w16 r.top = search rules in
     let made : outcome edges_of c.new.result ≡ box_outcome (edges_in r) = simp to_z-of_z at c.new.ensures in
     let boxed = not-false _ c.if-not-record.false in
-    let sound = first_passes glyph_key glyph_sound c.args.glyph c.args.self.now.glyphs.now r (sym found) c.args.self.now.glyphs_sound in
+    let sound = first_passes glyph_key glyph_sound c.args.glyph c.args.self.now.glyphs.rows.now r (sym found) c.args.self.now.glyphs_sound in
     ap box_of c.ok.ensures.value ∙ ok_box c.new.result
     ∙ ap result_ok (made ∙ cond-true _ _ _ (straight_if r.has_box (straight (edges_in r)) boxed sound))
     ∙ sym (cond-true _ _ _ boxed) ∙ ap box_in found

@@ -1,9 +1,0 @@
-use Rattle.std.proofs.Common.{◌≡◌, ◌-◌, length}
-use Rattle.placement.proofs.ByParts.{Reached}
-use Rattle.placement.proofs.positioning.position_marks.Given as goal
-
-abbrev pub invariant-loop-i : goal.invariant-loop-i
-invariant-loop-i g l = (long : length l.initial.positions ≡ length l.rows) → Reached (g.F.Face.meaning l.face) l.settings l.rows l.initial.positions long l.i l.positions
-
-abbrev pub decreases-loop-i : goal.decreases-loop-i
-decreases-loop-i g l = l.n - l.i
