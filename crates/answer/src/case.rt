@@ -19,6 +19,7 @@ pub struct Case {
     pub em: u32,
     pub glyphs: Vec<GlyphRecord>,
     pub codes: Vec<CodeRecord>,
+    // As the input gives it: a case may ask what lists of another length give.
     pub len: usize,
     pub settings: Settings,
     pub rows: Vec<SignRow>,

@@ -15,7 +15,7 @@ pub struct Drawing {
     pub pen: Pen,
 }
 
-// The place that is drawn after k others.
+// The place that is drawn after k others. That of `drawings` is not public: nobody else draws by places.
 fn place_at(forward: bool, len: usize, k: usize) -> usize
     requires { k < len }
     ensures value { result ≡ place_at forward len k }
@@ -37,7 +37,7 @@ fn draw_all(
 {
     let mut items = Vec::new(heap);
     let mut pen = Pen::default();
-    // By number, since the places run up or down.
+    // By number, since the places run up or down: a chain, and the same one reversed, would have two types.
     for k in 0..rows.len() {
         let place = place_at(forward, rows.len(), k);
         let position = positions[place];

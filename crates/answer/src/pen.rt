@@ -3,7 +3,8 @@ use std::fmt;
 
 pub mod moves;
 
-// Sums of 64 bits, as start positions may lead beyond what a drawing of 32 bits holds.
+// Sums of 64 bits, as start positions may lead beyond what a drawing of 32 bits holds. A number type for both drawings
+// would be a trait of sums with their limits, for two uses.
 #[derive(Clone, Copy, Default)]
 pub struct Pen {
     pub x: i64,

@@ -40,7 +40,7 @@ fn boxed(fields: &[&str]) -> anyhow::Result<GlyphRecord> {
     })
 }
 
-// glyph, across, down
+// glyph, across, down; without a box the edges are not looked at, and a struct with ghost fields derives no `Default`
 fn bare(fields: &[&str]) -> anyhow::Result<GlyphRecord> {
     let [glyph, across, down] = fields else {
         return Err(anyhow!("a glyph without a box has three numbers"));

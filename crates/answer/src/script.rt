@@ -7,7 +7,7 @@ pub fn script_number(text: &[u8]) -> Option<u32>
     ensures { result ≡ script_number text.now }
 {
     match text {
-        [45] => Some(0),
+        [b'-'] => Some(0),
         [a, b, c, d] => Some(u32::from_be_bytes([*a, *b, *c, *d])),
         _ => None,
     }

@@ -10,6 +10,7 @@ pub enum Stop {
     Failure(anyhow::Error),
 }
 
+// By hand: a refusal is no `std::error::Error`, from which a derive would start, and every other error is kept as a failure.
 impl From<faces::Refusal> for Stop {
     fn from(refusal: faces::Refusal) -> Stop {
         Stop::Face(refusal)

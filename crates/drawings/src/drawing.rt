@@ -2,8 +2,8 @@
 ghost use Rattle.std.specs.Prelude.{◌≡◌, ◌<◌, ◌≤◌, ◌++◌, length, drop, is_ok, if◌then◌else◌};
 ghost use Rattle.drawings.specs.DrawAnswers.{PensAfter, SameRoom, draw_answer};
 ghost use Rattle.drawings.specs.Drawing.{drawn_in, drawn_over, side};
-ghost use Rattle.drawings.specs.Pens.{Near, Penned, item_at, move_pen, place_at};
-ghost use Rattle.placement.specs.Room.{AllLight, Light};
+ghost use Rattle.drawings.specs.Pens.{Penned, place_at};
+ghost use Rattle.placement.specs.Room.{AllLight};
 
 use crate::item::Item;
 use crate::pen::Pen;
@@ -12,37 +12,14 @@ use crate::room::Room;
 use placement::{MOST_SIGNS, Position, Settings, all_bounded, bounds_stand};
 use signs::SignRow;
 
-// The place that is drawn after k others.
+// The place that is drawn after k others. Lists are read by index, as an iterator from the front and one from the back are
+// two types.
 fn place_at(forward: bool, len: usize, k: usize) -> usize
     requires { k < len }
     ensures value { result ≡ place_at forward len k }
     ensures within { result < len }
 {
     if forward { k } else { len - 1 - k }
-}
-
-// The pen after a sign.
-fn move_pen(pen: Pen, position: Position) -> Pen
-    requires { (Near 256 pen) × (Light position) }
-    ensures { result ≡ move_pen pen position }
-{
-    Pen {
-        x: pen.x + position.x_advance,
-        y: pen.y + position.y_advance,
-    }
-}
-
-// What is drawn of the sign at a place.
-fn item(pen: Pen, place: usize, row: SignRow, position: Position) -> Item
-    requires { (Near 256 pen) × (Light position) }
-    ensures { result ≡ item_at pen place row position }
-{
-    Item {
-        place,
-        glyph: row.code,
-        x: pen.x + position.x_offset,
-        y: pen.y + position.y_offset,
-    }
 }
 
 // Notes the pen before each sign, in drawing order.
@@ -56,7 +33,7 @@ fn set_pens(forward: bool, positions: &[Position], pens: &mut [Pen])
     let mut pen = Pen::default();
     for (k, noted) in pens[..len].iter_mut().enumerate() {
         *noted = pen;
-        pen = move_pen(pen, positions[place_at(forward, len, k)]);
+        pen = pen.after(positions[place_at(forward, len, k)]);
     }
 }
 
@@ -78,7 +55,7 @@ fn draw_items(
     let len = positions.len();
     for (k, drawn) in items[..len].iter_mut().enumerate() {
         let place = place_at(forward, len, k);
-        *drawn = item(pens[k], place, rows[place], positions[place]);
+        *drawn = pens[k].item(place, rows[place], positions[place]);
     }
 }
 
@@ -94,11 +71,12 @@ pub fn draw_line(
     ensures pens { PensAfter (is_ok result) room.old.pens.now room.new.pens.now }
     ensures same { SameRoom room.old room.new }
 {
+    // The lengths of a line, whose test in the steps of a line is private.
     let len = rows.len();
     if len > MOST_SIGNS || positions.len() != len {
         return Err(Refusal::Length);
     }
-    if room.items.len() < len || room.pens.len() < len {
+    if !room.holds(len) {
         return Err(Refusal::NoRoom);
     }
     if !all_bounded(rows, positions) {

@@ -12,7 +12,7 @@ pub enum Refusal {
     OutOfBounds = 16,
 }
 
-// The number by which callers know it.
+// The discriminants are the numbers by which callers know them. Each crate has refusals of its own, so each converts them.
 impl From<Refusal> for u8 {
     ghost from_gives = { λ e n. n ≡ number_of e };
 

@@ -1,9 +1,10 @@
-// The box of a glyph: four edges in font units, left at most right and bottom at most top.
+// The box of a glyph: four edges in font units, left at most right and bottom at most top. No `Model`:
+// definitions speak of edges (`edges_of`), as they do of those of records.
 ghost use Rattle.std.specs.Prelude.{◌≤ℤ◌};
 
 pub mod checked;
 
-#[derive(Clone, Copy)]
+#[derive(Clone, Copy, PartialEq, Eq, Debug)]
 pub struct Bounds {
     left: i16,
     bottom: i16,

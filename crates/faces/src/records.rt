@@ -5,14 +5,14 @@ ghost use Rattle.std.specs.Prelude.{◌^◌, ◌<◌};
 pub mod keys;
 
 #[repr(C)]
-#[derive(Clone, Copy)]
+#[derive(Clone, Copy, PartialEq, Eq, Debug)]
 pub struct GlyphRecord {
     pub glyph: u16,
     pub across: u16,
     // The size of the down advance, which is its negative.
     pub down: u16,
+    // No `Option`, since C lends these rows: without a box its edges are not looked at.
     pub has_box: bool,
-    // The edges of the box; without a box they are not looked at.
     pub left: i16,
     pub bottom: i16,
     pub right: i16,
@@ -27,7 +27,7 @@ pub struct GlyphRecord {
 }
 
 #[repr(C)]
-#[derive(Clone, Copy)]
+#[derive(Clone, Copy, PartialEq, Eq, Debug)]
 pub struct CodeRecord {
     pub code: u32,
     pub glyph: u16,

@@ -13,7 +13,7 @@ fn field<const N: usize>(bytes: &[u8], at: usize) -> Result<[u8; N], ByteFault>
     rest.first_chunk().copied().ok_or(ByteFault { place })
 }
 
-// A field of two bytes.
+// A field of two bytes. This and the next two are a line each, and differ in the number that the bytes make.
 pub(crate) fn read_u16(bytes: &[u8], at: usize) -> Result<u16, ByteFault>
     ensures { result ≡ u16_at bytes.now at }
 {

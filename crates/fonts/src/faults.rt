@@ -2,7 +2,7 @@
 ghost use Rattle.std.specs.Prelude.{◌≡◌};
 ghost use Rattle.fonts.specs.Faults.{in_table, number_of};
 
-// The discriminants are the numbers by which callers know them.
+// The discriminants are the numbers by which callers know them. Each crate has faults of its own, so each converts them.
 #[derive(Clone, Copy, PartialEq, Eq, Debug)]
 pub enum Fault {
     // The em is below 16 or above 16384.

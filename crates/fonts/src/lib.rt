@@ -1,4 +1,4 @@
-// Font files: TrueType bytes as a face, or the first fault in them.
+// The beginning of font files: fields of bytes, and faults.
 #![tactic(auto)]
 
 mod bytes;

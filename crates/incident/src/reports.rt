@@ -1,4 +1,5 @@
-// The signs that are reported of the gate. The two bars are two codes; in the panel font they are one glyph.
+// The signs that are reported of the gate. The two bars are two codes; in the panel font they are one glyph. Zeros are
+// written out, as a constant can call no `default`.
 use signs::SignRow;
 
 // U+0041, an uppercase letter.

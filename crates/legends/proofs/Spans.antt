@@ -1,5 +1,6 @@
 -- The two ends of a span: how the search for the first one goes, and that a line may be cut at both.
-use Rattle.std.proofs.Common.{◌≡◌, ℕ, nat_eq, zero, suc, ◌+◌, ◌<◌, ◌≤◌, Bool, true, false, not, cond, ◌⊎◌, List, [], ◌∷◌, length, take, drop, sym, refl, ap, ◌∙◌, inl, inr, arith, length-drop, eqb-true}
+use Rattle.std.proofs.Common.{◌≡◌, ℕ, nat_eq, zero, suc, ◌+◌, ◌<◌, ◌≤◌, Bool, true, false, not, cond, ◌⊎◌, List, [], ◌∷◌, length, take, drop, sym, refl, ap, ◌∙◌, inl, inr, arith, length-drop, length-take-le, eqb-true, Some, None, Option, unwrap_or}
+use Rattle.std.specs.Option.{MatchOption}
 use borrow.Author.Tests.{eqb-false}
 use Rattle.std.proofs.lemmas.List.{get_or-take, drop_more, drop-drop}
 use Rattle.signs.specs.declared.SignRow.{SignRow}
@@ -16,6 +17,10 @@ before_front rows place (suc n) h =
     let r = get_or-take place rows n no_row (omega arith) in
     ap (λ t. cond (is_mark (read_row t)) (end_before (take place rows) n) n) r ∙ ap (λ k. cond (is_mark_at rows n) k n) (before_front rows place n (omega arith))
 
+pub whole_front : (rows : List SignRow) (place : ℕ) → place ≤ length rows → end_before (take place rows) (length (take place rows)) ≡ end_before rows place
+whole_front rows place h =
+    ap (end_before (take place rows)) (length-take-le place rows h) ∙ before_front rows place place (omega arith)
+
 -- where all that stands before a place are marks, or all after the first end
 marked : (b : Bool) → not b ≡ false → b ≡ true
 marked true e = refl
@@ -25,12 +30,12 @@ unmarked : (b : Bool) → not b ≡ true → b ≡ false
 unmarked true e = sym e
 unmarked false e = refl
 
-pub before_none : (rows : List SignRow) (n : ℕ) → ((k : ℕ) → k < n → not (is_mark_at rows k) ≡ false) → end_before rows n ≡ 0
+before_none : (rows : List SignRow) (n : ℕ) → ((k : ℕ) → k < n → not (is_mark_at rows k) ≡ false) → end_before rows n ≡ 0
 before_none rows zero all = refl
 before_none rows (suc n) all =
     ap (λ b. cond b (end_before rows n) n) (marked (is_mark_at rows n) (all n (omega arith))) ∙ before_none rows n (λ k h. all k (omega arith))
 
-pub before_last : (rows : List SignRow) (n i : ℕ) → i < n → not (is_mark_at rows i) ≡ true → ((k : ℕ) → i + 1 ≤ k → k < n → not (is_mark_at rows k) ≡ false) → end_before rows n ≡ i
+before_last : (rows : List SignRow) (n i : ℕ) → i < n → not (is_mark_at rows i) ≡ true → ((k : ℕ) → i + 1 ≤ k → k < n → not (is_mark_at rows k) ≡ false) → end_before rows n ≡ i
 before_last rows zero i h e after = absurd (omega arith)
 before_last rows (suc n) i h e after = way (nat_eq i n) refl (λ z. before_last rows n i z e (λ k lo hi. after k lo (omega arith)))
   where
@@ -40,6 +45,12 @@ before_last rows (suc n) i h e after = way (nat_eq i n) refl (λ z. before_last 
         let ne = eqb-false i n q in
         let z : i < n = omega arith in
         ap (λ b. cond b (end_before rows n) n) (marked (is_mark_at rows n) (after n (omega arith) (omega arith))) ∙ rest z
+
+pub before_found : (rows : List SignRow) (n : ℕ) (r : Option ℕ)
+    → MatchOption r ((k : ℕ) → k < n → not (is_mark_at rows k) ≡ false) (λ i. (i < n) × ((not (is_mark_at rows i) ≡ true) × ((k : ℕ) → i + 1 ≤ k → k < n → not (is_mark_at rows k) ≡ false)))
+    → unwrap_or r 0 ≡ end_before rows n
+before_found rows n (Some i) h = sym (before_last rows n i h.0 h.1.0 h.1.1)
+before_found rows n None h = sym (before_none rows n h)
 
 pub before_le : (rows : List SignRow) (k : ℕ) → end_before rows k ≤ k
 before_le rows zero = omega arith

@@ -7,7 +7,7 @@ use signs::SignRow;
 
 // An enum and a match on it: calls are data, lent by the caller as a list.
 // Each call is lent that many entries of each of the legend's lists, or all where there are fewer.
-#[derive(Clone, Copy)]
+#[derive(Clone, Copy, PartialEq, Eq, Debug)]
 pub enum Call {
     Put {
         lent: usize,

@@ -20,7 +20,7 @@ use placement::Position;
 use signs::SignRow;
 
 // Carries out one call, which is lent a part of each list, as a caller may hand too little.
-// It takes slices: fields of a lent struct, split and made into a struct again, are not covered by the check.
+// It takes slices: the borrow checker refuses fields of a lent struct that are split and made into a struct again.
 fn obey<F: Face>(
     call: Call,
     legend: &mut Legend,
@@ -39,6 +39,7 @@ fn obey<F: Face>(
     ensures items { items.new ≡ (if is_ok result then drawn_by call (state legend.old signs.old mapped.old positions.old) items.old else items.old) }
 {
     let end = legend.len.min(call.lent());
+    // Split, and no `&mut signs[..end]`: what such a part holds is lost to the proof once the part is in a struct.
     let (signs, _) = signs.split_at_mut(end);
     let (mapped, _) = mapped.split_at_mut(end);
     let (positions, _) = positions.split_at_mut(end);
@@ -86,7 +87,7 @@ pub fn look_after<F: Face>(
     if !lists.fit(len) {
         return Err(Refusal::Length);
     }
-    if room.items.len() < len || room.pens.len() < len {
+    if !room.holds(len) {
         return Err(Refusal::NoRoom);
     }
     histories_stand();

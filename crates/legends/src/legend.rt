@@ -5,7 +5,7 @@ pub mod calls;
 pub mod drawing;
 pub mod readings;
 
-#[derive(Clone, Copy)]
+#[derive(Clone, Copy, PartialEq, Eq, Debug)]
 pub struct Legend {
     pub(crate) len: usize,
     pub(crate) settings: Settings,

@@ -1,4 +1,5 @@
-// The panel font, 1000 units to the em: a letter, a bar, a space. Both bars are one glyph.
+// The panel font, 1000 units to the em: a letter, a bar, a space. Both bars are one glyph. Each row spells all of its fields,
+// as a constant can call no `default`, and a struct with ghost fields derives none.
 use faces::{CodeRecord, GlyphRecord};
 
 pub const EM: u32 = 1000;

@@ -7,16 +7,16 @@ use faces::{CodeRecord, Face, GlyphRecord, RecordFace, Refusal};
 use placement::{Direction, position_one_mark};
 
 // U+0041, U+0332 combining low line and U+0305 combining overline.
-const LETTER: u32 = 0x41;
+pub const LETTER: u32 = 0x41;
 
-const BAR_BENEATH: u32 = 0x332;
+pub const BAR_BENEATH: u32 = 0x332;
 
-const BAR_OVER: u32 = 0x305;
+pub const BAR_OVER: u32 = 0x305;
 
-// The combining classes of the two bars.
-const BELOW: u8 = 220;
+// The combining classes of the two bars; no enum of bars, as `gate_sign` takes any mark.
+pub const BELOW: u8 = 220;
 
-const ABOVE: u8 = 230;
+pub const ABOVE: u8 = 230;
 
 // The glyphs of a letter and its bar, and where the bar lies from the letter's origin.
 #[derive(Clone, Copy)]
@@ -46,6 +46,7 @@ pub fn gate_sign<F: Face>(face: &F, letter: u32, bar: u32, class: u8) -> Option<
 pub fn closed_and_locked() -> Result<(Option<GateSign>, Option<GateSign>), Refusal>
     ensures { outcome (λ s. s) result ≡ closed_and_locked }
 {
+    // Spelt out, as the proof computes what this face answers.
     let glyphs = [
         GlyphRecord {
             glyph: 1,

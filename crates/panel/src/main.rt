@@ -8,6 +8,7 @@ use anyhow::anyhow;
 use gate::{GateSign, closed_and_locked};
 use row::show_row;
 
+// Printed here alone, so a `Display` would be no plainer.
 fn show(rt: &impl Print, state: &str, side: &str, sign: Option<GateSign>) -> anyhow::Result<()> {
     let sign = sign.ok_or_else(|| anyhow!("the panel font lacks a glyph or a box of this sign"))?;
     println!(rt; "Gate A is {state}: the bar lies {side} the letter.")?;

@@ -1,9 +1,12 @@
 // A whole line of a panel: gate A closed, gate B locked, gate C open.
+use crate::gate::{ABOVE, BAR_BENEATH, BAR_OVER, BELOW, LETTER};
 use anyhow::anyhow;
+use drawings::{Item, Pen, Room, draw_line};
 use faces::{CodeRecord, GlyphRecord, RecordFace};
 use placement::{Position, Settings, route_line};
 use signs::SignRow;
 
+// This program's own: for all it would be one more public function of `faces`.
 fn boxed(glyph: u16, across: u16, right: i16, top: i16) -> GlyphRecord {
     GlyphRecord {
         glyph,
@@ -27,27 +30,12 @@ fn letter(code: u32) -> SignRow {
 }
 
 // A nonspacing mark of a combining class.
-fn bar(code: u32, class: u16) -> SignRow {
+fn bar(code: u32, class: u8) -> SignRow {
     SignRow {
         code,
-        unicode_props: (class & 0xff) * 256 + 12,
+        unicode_props: u16::from(class) * 256 + 12,
         ..SignRow::default()
     }
-}
-
-// Where each sign is drawn: from the pen, which moves by the advances.
-fn show_signs(rt: &impl Print, rows: &[SignRow], positions: &[Position]) -> anyhow::Result<()> {
-    let mut x: i32 = 0;
-    let mut y: i32 = 0;
-    for (row, position) in rows.iter().zip(positions) {
-        let glyph = row.code;
-        let left = x.saturating_add(position.x_offset);
-        let up = y.saturating_add(position.y_offset);
-        println!(rt; "  glyph {glyph} at {left}, {up}")?;
-        x = x.saturating_add(position.x_advance);
-        y = y.saturating_add(position.y_advance);
-    }
-    Ok(())
 }
 
 pub fn show_row(rt: &impl Print) -> anyhow::Result<()> {
@@ -59,7 +47,7 @@ pub fn show_row(rt: &impl Print) -> anyhow::Result<()> {
     ];
     let codes = [
         CodeRecord {
-            code: 0x41,
+            code: LETTER,
             glyph: 1,
         },
         CodeRecord {
@@ -71,11 +59,11 @@ pub fn show_row(rt: &impl Print) -> anyhow::Result<()> {
             glyph: 4,
         },
         CodeRecord {
-            code: 0x305,
+            code: BAR_OVER,
             glyph: 2,
         },
         CodeRecord {
-            code: 0x332,
+            code: BAR_BENEATH,
             glyph: 2,
         },
     ];
@@ -83,16 +71,27 @@ pub fn show_row(rt: &impl Print) -> anyhow::Result<()> {
         "the panel font is refused"
     ))?;
     let mut rows = [
-        letter(0x41),
-        bar(0x332, 220),
+        letter(LETTER),
+        bar(BAR_BENEATH, BELOW),
         letter(0x42),
-        bar(0x305, 230),
+        bar(BAR_OVER, ABOVE),
         letter(0x43),
     ];
+    let settings = Settings::default();
     let mut positions = [Position::default(); 5];
-    route_line(&face, Settings::default(), &mut rows, &mut positions).map_err(|_| anyhow!(
+    route_line(&face, settings, &mut rows, &mut positions).map_err(|_| anyhow!(
         "the line is refused"
     ))?;
+    let mut items = [Item::default(); 5];
+    let mut pens = [Pen::default(); 5];
+    let mut room = Room {
+        items: &mut items,
+        pens: &mut pens,
+    };
+    draw_line(settings, &rows, &positions, &mut room).map_err(|_| anyhow!("the line is refused"))?;
     println!(rt; "Gates A, B and C in a row, A closed, B locked and C open:")?;
-    show_signs(rt, &rows, &positions)
+    for item in &items {
+        println!(rt; "  glyph {} at {}, {}", item.glyph, item.x, item.y)?;
+    }
+    Ok(())
 }

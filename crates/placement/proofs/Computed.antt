@@ -24,3 +24,7 @@ again_half {x} {a} e f = again_is (ap (λ z. quot_z z (pos 2)) e) (omega (arith,
 
 pub again_both : {A : Type 0} (f : ℤ → ℤ → A) (a b : ℤ) → SFits w32 a → SFits w32 b → f (again a) (again b) ≡ f a b
 again_both f a b p q = ap (λ x. f x (again b)) (again_same a p) ∙ ap (f a) (again_same b q)
+
+-- what a call that was given such numbers answered, as it is read again
+pub again_called : (f : ℤ → ℤ → ℤ) {r : ℤ} (a b : ℤ) → r ≡ f (again a) (again b) → SFits w32 r → SFits w32 a → SFits w32 b → again r ≡ f a b
+again_called f {r} a b e q fa fb = again_same r q ∙ e ∙ again_both f a b fa fb

@@ -1,9 +1,12 @@
 -- Products and quotients of widths stay within bounds.
-use Rattle.std.proofs.Common.{◌≡◌, ℕ, suc, ◌*◌, ◌/◌, ◌≤◌, Bool, true, false, ℤ, pos, negsuc, ◌*ℤ◌, neg_ℤ, mul-le-mul, div-le_self, arith, w32, SFits, to_z}
+use Rattle.std.proofs.Common.{◌≡◌, ℕ, suc, ◌*◌, ◌/◌, ◌≤◌, Bool, true, false, ℤ, pos, negsuc, ◌*ℤ◌, neg_ℤ, mul-le-mul, div-le_self, arith, sym, subst, w32, SFits, to_z}
 use lib.Signed.{quot_z}
 use Rattle.std.proofs.lemmas.Int.{ints, to_z_pos}
+use Rattle.signs.specs.declared.SignRow.{SignRow}
+use Rattle.signs.specs.Rows.{lig_num_comps}
 use Rattle.placement.specs.Room.{Within}
 use Rattle.placement.specs.Components.{leftward}
+use Rattle.placement.proofs.Belonging.{components_few}
 use Rattle.placement.proofs.Computed.{again, again_same}
 
 within_pos : (n a : ℕ) → a ≤ n → Within n (pos a)
@@ -79,3 +82,7 @@ module _ (k w : ℤ) (n : ℕ) (hk : Within 15 k) (hw : Within 65535 w) (hn : n 
       let q = quot_within 65535 w n hw in
       let e = again_same (quot_z w (pos n)) (omega (arith, ints)) in
       simp (ew, en) e
+
+-- how many components a base has, and how many of them lie to the left of one
+pub before_within : (ltr : Bool) (r : SignRow) (n k : ℕ) (z : ℤ) → n ≡ lig_num_comps r → k ≤ 15 → z ≡ leftward ltr n k → (n ≤ 15) × Within 15 z
+before_within ltr r n k z e g q = let few : n ≤ 15 = omega (arith, e, components_few r) in (few, subst (Within 15) (sym q) (leftward_within ltr n k few g))

@@ -5,14 +5,14 @@ ghost use Rattle.placement.specs.Classes.{align, is_attached, way};
 use crate::direction::Direction;
 
 // The way in which the marks of a run go on from their base.
-#[derive(Clone, Copy)]
+#[derive(Clone, Copy, PartialEq, Eq, Debug)]
 pub enum Way {
     Above,
     Below,
 }
 
 // Where a mark stands across its box: at a side, with its middle on a side, or centred.
-#[derive(Clone, Copy)]
+#[derive(Clone, Copy, PartialEq, Eq, Debug)]
 pub enum Align {
     AtLeft,
     AtRight,

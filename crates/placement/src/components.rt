@@ -8,7 +8,7 @@ use crate::base::Base;
 use crate::extents::Extents;
 use signs::Sign;
 
-// How many components lie to the left of one.
+// How many components lie to the left of one. Count and number are those of rows and walks, so contracts bound them.
 fn components_before(ltr: bool, count: u8, number: u8) -> i32
     requires count { count ≤ 15 }
     requires component { number ≤ 15 }
@@ -22,7 +22,7 @@ fn components_before(ltr: bool, count: u8, number: u8) -> i32
 }
 
 impl Base {
-    // The component that a mark belongs to, counted from 1; 0 for none.
+    // The component that a mark belongs to, counted from 1; 0 for none, as a walk holds it.
     pub(crate) fn component_of(self, mark: Sign) -> u8
         ensures value { result ≡ component (row_of self.sign) (row_of mark) }
         ensures small { result ≤ 15 }

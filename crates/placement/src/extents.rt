@@ -54,6 +54,7 @@ impl Extents {
         }
     }
 
+    // A box is a row of plain numbers, so contracts bound them.
     pub(crate) fn raised(self, by: i32) -> Extents
         requires own { Spans 32768 self }
         requires by { Within 40000000 by }

@@ -17,7 +17,7 @@ use crate::walk::Walk;
 use faces::{Bounds, Face};
 use signs::{Sign, SignRow};
 
-// An offset, less its advance where the line adjusts.
+// An offset, less its advance where the line adjusts. Both are numbers of a lent row, so a contract bounds them; so in `began`.
 fn less(adjust: bool, offset: i32, advance: i32) -> i32
     requires offset { Within 40000000 offset }
     requires advance { Within 65535 advance }
@@ -35,28 +35,6 @@ fn zeroed_position(adjust: bool, position: Position) -> Position
         x_offset: less(adjust, position.x_offset, position.x_advance),
         y_offset: less(adjust, position.y_offset, position.y_advance),
         ..Position::default()
-    }
-}
-
-// A mark after a base without a box: only nonspacing marks change.
-fn zeroed_mark(adjust: bool, row: SignRow, position: Position) -> Position
-    requires { Light position }
-    ensures { result ≡ (zeroed adjust (cell (read_row row) position)).position }
-{
-    if Sign::read(row).is_nonspacing_mark() {
-        return zeroed_position(adjust, position);
-    }
-    position
-}
-
-pub(crate) fn zero_mark_advances(adjust: bool, rows: &[SignRow], positions: &mut [Position])
-    requires long { length positions.old ≡ length rows.now }
-    requires light { AllLight positions.old }
-    ensures { positions.new ≡ positions_of (map (zeroed adjust) (cells rows.now positions.old)) }
-{
-    // Positions by their place: a proof knows nothing of what a `zip` over `iter_mut` wrote.
-    for (i, row) in rows.iter().enumerate() {
-        positions[i] = zeroed_mark(adjust, *row, positions[i]);
     }
 }
 
@@ -86,6 +64,28 @@ impl Walk {
 }
 
 impl<F: Face> Layout<'_, F> {
+    // A mark after a base without a box: only nonspacing marks change.
+    fn zeroed_mark(&self, row: SignRow, position: Position) -> Position
+        requires { Light position }
+        ensures { result ≡ (zeroed self.now.settings.adjust (cell (read_row row) position)).position }
+    {
+        if Sign::read(row).is_nonspacing_mark() {
+            return zeroed_position(self.settings.adjust, position);
+        }
+        position
+    }
+
+    pub(crate) fn zero_mark_advances(&self, rows: &[SignRow], positions: &mut [Position])
+        requires long { length positions.old ≡ length rows.now }
+        requires light { AllLight positions.old }
+        ensures { positions.new ≡ positions_of (map (zeroed self.now.settings.adjust) (cells rows.now positions.old)) }
+    {
+        // Positions by index: a proof knows nothing of what a `zip` over `iter_mut` wrote.
+        for (i, row) in rows.iter().enumerate() {
+            positions[i] = self.zeroed_mark(*row, positions[i]);
+        }
+    }
+
     // The base of a group, with a box of its own.
     pub(crate) fn base_at(&self, sign: Sign, bounds: Bounds, position: Position) -> Base
         requires glyph { (row_of sign).code ≤ 65535 }
@@ -115,7 +115,7 @@ impl<F: Face> Layout<'_, F> {
         requires near { Near 0 start }
         ensures { positions.new ≡ positions_of (walked (F.meaning self.now.face.now) self.now.settings (as_base base) start (cells rows.now positions.old)) }
     {
-        // Positions by their place: a proof knows nothing of what a `zip` over `iter_mut` wrote.
+        // Positions by index: a proof knows nothing of what a `zip` over `iter_mut` wrote.
         let mut walk = start;
         for (i, row) in rows.iter().enumerate() {
             let next = self.step(base, walk, *row, positions[i]);

@@ -1,4 +1,5 @@
-// Lines of signs over any face: classed, mapped, spaced, and their marks placed.
+// Lines of signs over any face: classed, mapped, spaced, and their marks placed. Numbers are widened by
+// `as` or by `from`: the check proves that neither loses anything.
 #![tactic(auto)]
 
 mod base;

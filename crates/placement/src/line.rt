@@ -1,4 +1,5 @@
-// A line of signs by how far it has come. Each step takes the line and gives the next; the lists are lent to it.
+// A line of signs by how far it has come. Each step takes the line and gives the next. The lists are lent to it, as panels
+// have fixed memory: the line keeps only their length.
 use crate::refusal::Refusal;
 use crate::settings::Settings;
 use std::marker::PhantomData;

@@ -48,7 +48,7 @@ impl<F: Face> Layout<'_, F> {
         ensures rows { rows.new ≡ map (map_row (F.meaning self.now.face.now)) rows.old }
         ensures positions { positions.new ≡ map (map_position (F.meaning self.now.face.now) (is_horizontal self.now.settings.direction)) rows.old }
     {
-        // Positions by their place: a proof knows nothing of what a `zip` over `iter_mut` wrote.
+        // Positions by index: a proof knows nothing of what a `zip` over `iter_mut` wrote.
         for (i, row) in rows.iter_mut().enumerate() {
             positions[i] = self.map_position(*row);
             *row = self.map_row(*row);

@@ -15,7 +15,7 @@ use faces::Bounds;
 fn never_lifted(y: i32) -> i32
     ensures { result ≡ unlifted y }
 {
-    if y > 0 { 0 } else { y }
+    y.min(0)
 }
 
 // A mark above that would sink goes only half of that way.

@@ -1,4 +1,6 @@
-// Placing the marks of a line, group by group.
+// Placing the marks of a line, group by group. Rows and positions stay two parameters, here as in `groups`, `mapping` and
+// `spaces`: the parts of both are lent on, which the borrow checker refuses for the fields of a lent struct. So contracts say
+// that the lists are equally long, few, of glyphs and light: no value holds both lists, to say it in its type.
 ghost use Rattle.std.specs.Prelude.{◌≡◌, ◌<◌, ◌≤◌, length};
 ghost use Rattle.std.specs.List.{position};
 ghost use Rattle.placement.specs.Lines.{cells, positions_of};
@@ -6,7 +8,6 @@ ghost use Rattle.placement.specs.Marks.{base_after, is_base, marks};
 ghost use Rattle.placement.specs.Placements.{group, placed_line};
 ghost use Rattle.placement.specs.Room.{AllGlyphs, AllLight};
 
-use crate::groups::zero_mark_advances;
 use crate::layout::Layout;
 use crate::position::Position;
 use crate::walk::Walk;
@@ -54,7 +55,7 @@ pub fn next_base(rows: &[SignRow], place: usize) -> usize
 }
 
 impl<F: Face> Layout<'_, F> {
-    // A base and its marks. A base without a box ends the group early.
+    // A base and its marks. A base without a box ends the group early, in the form of the original, which the project keeps.
     fn position_around_base(&self, rows: &[SignRow], positions: &mut [Position])
         requires some { 0 < length rows.now }
         requires long { length positions.old ≡ length rows.now }
@@ -63,16 +64,15 @@ impl<F: Face> Layout<'_, F> {
         requires light { AllLight positions.old }
         ensures { positions.new ≡ positions_of (group (F.meaning self.now.face.now) self.now.settings (cells rows.now positions.old)) }
     {
-        let n = rows.len();
         let sign = Sign::read(rows[0]);
         let Some(bounds) = self.face.bounds(sign.row().code as u16) else {
-            zero_mark_advances(self.settings.adjust, &rows[1..n], &mut positions[1..n]);
+            self.zero_mark_advances(&rows[1..], &mut positions[1..]);
             return;
         };
         let position = positions[0];
         let base = self.base_at(sign, bounds, position);
         let walk = Walk::from_base(self.settings.direction.is_forward(), position, base);
-        self.position_along(base, walk, &rows[1..n], &mut positions[1..n]);
+        self.position_along(base, walk, &rows[1..], &mut positions[1..]);
     }
 
     pub(crate) fn position_marks(&self, rows: &[SignRow], positions: &mut [Position])
@@ -82,7 +82,7 @@ impl<F: Face> Layout<'_, F> {
         requires light { AllLight positions.old }
         ensures { positions.new ≡ positions_of (placed_line (F.meaning self.now.face.now) self.now.settings (cells rows.now positions.old)) }
     {
-        // A group ends where the next base stands: no `for` takes such steps through two lists.
+        // A `while`, since each step lends on a middle part of both lists; `chunk_by` cuts only one.
         let n = rows.len();
         let mut i = base_after(rows, 0);
         while i < n {

@@ -2,7 +2,7 @@
 ghost use Rattle.std.specs.Prelude.{◌≡◌};
 ghost use Rattle.placement.specs.Refusals.{number_of};
 
-// A refusal's number is the one by which callers know it.
+// The discriminants are the numbers by which callers know them. Each crate has refusals of its own, so each converts them.
 #[derive(Clone, Copy, PartialEq, Eq, Debug)]
 pub enum Refusal {
     // More signs than a line may have, or lists that are not as long as the line.

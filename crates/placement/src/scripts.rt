@@ -4,7 +4,7 @@ ghost use Rattle.placement.specs.Scripts.{from_script};
 
 use crate::direction::Direction;
 
-// Written from right to left.
+// Written from right to left. As numbers: a constant may not call `u32::from_be_bytes(*b"Adlm")`.
 const RIGHT_TO_LEFT: [u32; 35] = [
     // Adlm
     0x41646C6D,

@@ -5,10 +5,10 @@ ghost use Rattle.placement.specs.Text.{is_text_ltr};
 use crate::direction::Direction;
 use crate::scripts::from_script;
 
-#[derive(Clone, Copy, Default)]
+#[derive(Clone, Copy, Default, PartialEq, Eq, Debug)]
 pub struct Settings {
     pub direction: Direction,
-    // The number of the script's four letters, the first one highest; 0 for none. States of a line are plain numbers.
+    // The number of four letters, the first one highest; 0 for none. A number, since the project wants the states of a line plain.
     pub script: u32,
     // Whether marks on a base without a box go back by their advances before these are zeroed.
     pub adjust: bool,

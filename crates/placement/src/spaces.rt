@@ -26,15 +26,11 @@ fn sized(horizontal: bool, units: u32) -> i32
 
 impl<F: Face> Layout<'_, F> {
     // The advance of the first of some codes that has a glyph.
-    fn first_advance(&self, codes: Range<u32>) -> Option<i32>
+    fn first_advance(&self, mut codes: Range<u32>) -> Option<i32>
         ensures { result ≡ first_advance (F.meaning self.now.face.now) (is_horizontal self.now.settings.direction) codes.start (codes.end - codes.start) }
     {
-        for code in codes {
-            if let Some(glyph) = self.face.glyph(code) {
-                return Some(self.advance_along(glyph));
-            }
-        }
-        None
+        let glyph = codes.find_map(|code| self.face.glyph(code))?;
+        Some(self.advance_along(glyph))
     }
 
     // The advance of a space by the number of its type, or none where it keeps its own.
@@ -82,7 +78,7 @@ impl<F: Face> Layout<'_, F> {
         requires { length positions.old ≡ length rows.now }
         ensures { positions.new ≡ positions_of (map (spaced_along (F.meaning self.now.face.now) (is_horizontal self.now.settings.direction)) (cells rows.now positions.old)) }
     {
-        // Positions by their place: a proof knows nothing of what a `zip` over `iter_mut` wrote.
+        // Positions by index: a proof knows nothing of what a `zip` over `iter_mut` wrote.
         for (i, row) in rows.iter().enumerate() {
             positions[i] = self.space_position(*row, positions[i]);
         }

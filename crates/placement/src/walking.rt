@@ -18,7 +18,7 @@ use crate::walk::Walk;
 use faces::Face;
 use signs::{Sign, SignRow};
 
-// A correction after a mark that stays where it is.
+// A correction after a mark that stays where it is. Contracts bound plain numbers of a walk (`Near`) and a row (`Light`).
 fn corrected(forward: bool, by: i32, advance: i32) -> i32
     requires by { Within 40000000 by }
     requires advance { Within 65535 advance }
@@ -102,6 +102,7 @@ impl<F: Face> Layout<'_, F> {
         ensures walk { result.walk ≡ settled_walk (F.meaning self.now.face.now) self.now.settings walk class (ink ((F.meaning self.now.face.now).bounds glyph)) }
         ensures position { result.position ≡ settled (F.meaning self.now.face.now) self.now.settings walk class (ink ((F.meaning self.now.face.now).bounds glyph)) position }
     {
+        // No `?`: without a box the mark goes by its own offsets, and the run stays as it is.
         let Some(bounds) = self.face.bounds(glyph) else {
             return Stepped {
                 walk,

@@ -13,7 +13,8 @@ pub struct Case {
     direction: Direction,
 }
 
-// A glyph with a box of left, bottom, right and top.
+// A glyph with a box of left, bottom, right and top. This program's own: for all it would be one more public function of
+// `faces`.
 pub fn boxed(glyph: u16, across: u16, edges: [i16; 4]) -> GlyphRecord {
     let [left, bottom, right, top] = edges;
     GlyphRecord {
@@ -46,10 +47,10 @@ fn direction(number: i32) -> anyhow::Result<Direction> {
 
 // em, the base's advance across, its box, the mark's box, class, direction (1 to 4: right, left, down, up).
 pub fn read_case(heap: Global, line: &str) -> anyhow::Result<Case> {
-    let mut numbers: Vec<i32> = Vec::new(heap);
-    for field in line.split(',') {
-        numbers.push(field.parse::<i32>()?)?;
-    }
+    let numbers = line
+        .split(',')
+        .map(|field| -> anyhow::Result<i32> { Ok(field.parse::<i32>()?) })
+        .try_collect::<Vec<i32>>(heap)?;
     let [
         em,
         across,

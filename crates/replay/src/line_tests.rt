@@ -1,13 +1,13 @@
 // Refusals and edges of signs and of the steps of a line.
 use crate::cases::boxed;
+use crate::tests::refusal_number;
 use faces::{GlyphRecord, RecordFace};
 use placement::{Position, Settings, Written, route_line};
 use signs::{Sign, SignRow};
 use std::test::Fail;
 
-// The number of the refusal, 0 where the sign is made.
 fn sign_number(code: u32, unicode_props: u16) -> u8 {
-    Sign::new(code, unicode_props, 0, 0).map_or_else(u8::from, |_| 0)
+    refusal_number(Sign::new(code, unicode_props, 0, 0))
 }
 
 fn row(code: u32, unicode_props: u16) -> SignRow {
@@ -41,7 +41,7 @@ fn spaced_number(code: u32, position: Position) -> Result<u8, Fail> {
     rows[0].code = code;
     positions[0] = position;
     let spaced = line.spaced(&face, &rows, &mut positions);
-    Ok(spaced.map_or_else(|refused| u8::from(refused.refusal), |_| 0))
+    Ok(refusal_number(spaced.map_err(|refused| refused.refusal)))
 }
 
 #[test]

@@ -4,13 +4,17 @@ use faces::{Bounds, CodeRecord, Face, GlyphRecord, RecordFace};
 use placement::{Direction, position_one_mark};
 use std::test::Fail;
 
-// The number of the refusal, 0 where the face is made.
+// The number of a refusal, 0 where there is none: the tests keep the values that they had.
+pub fn refusal_number<T: Drop, E: Into<u8>>(made: Result<T, E>) -> u8 {
+    made.map_or_else(|refusal| refusal.into(), |_| 0)
+}
+
 fn face_number<'a>(em: u32, glyphs: &'a [GlyphRecord], codes: &'a [CodeRecord]) -> u8 {
-    RecordFace::new(em, glyphs, codes).map_or_else(u8::from, |_| 0)
+    refusal_number(RecordFace::new(em, glyphs, codes))
 }
 
 fn box_number(left: i16, bottom: i16, right: i16, top: i16) -> u8 {
-    Bounds::new(left, bottom, right, top).map_or_else(u8::from, |_| 0)
+    refusal_number(Bounds::new(left, bottom, right, top))
 }
 
 fn bare(glyph: u16) -> GlyphRecord {

@@ -1,4 +1,4 @@
-// The combining classes by which marks are placed.
+// The combining classes by which marks are placed. The tables are data, so that one look-up is proved for all.
 ghost use Rattle.std.specs.Prelude.{◌≡◌};
 ghost use Rattle.signs.specs.Classes.{by_code, by_script, lookup, recategorized};
 

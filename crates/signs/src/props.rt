@@ -1,4 +1,5 @@
-// The category and the class in the properties of a sign, and which properties a sign may have.
+// The category and the class in the properties of a sign, and which properties a sign may have. A category is the number
+// that the rows have: of thirty names four would be used.
 ghost use Rattle.std.specs.Prelude.{◌≡◌};
 ghost use Rattle.signs.specs.Props.{category_of, class_of, has_category, has_class, is_allowed, is_mark_of};
 ghost use Rattle.signs.specs.Reclassing.{with_class};
@@ -19,8 +20,7 @@ pub fn class_of(props: u16) -> u8
 pub fn is_mark_of(props: u16) -> bool
     ensures { result ≡ is_mark_of props }
 {
-    let category = category_of(props);
-    10 <= category && category <= 12
+    (10..=12).contains(&category_of(props))
 }
 
 // Categories 30 and 31 mean nothing.

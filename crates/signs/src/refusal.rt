@@ -2,7 +2,7 @@
 ghost use Rattle.std.specs.Prelude.{◌≡◌};
 ghost use Rattle.signs.specs.Refusals.{number_of};
 
-// The discriminants are the numbers by which callers know them.
+// The discriminants are the numbers by which callers know them. Each crate has refusals of its own, so each converts them.
 #[derive(Clone, Copy, PartialEq, Eq, Debug)]
 pub enum Refusal {
     CodeTooLarge = 10,

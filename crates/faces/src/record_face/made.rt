@@ -18,7 +18,7 @@ impl<'a> RecordFace<'a> {
     ) -> Result<RecordFace<'a>, Refusal>
         ensures { outcome recorded_meaning result ≡ record_outcome em glyphs.now codes.now }
     {
-        if em < 16 || em > 16384 {
+        if !(16..=16384).contains(&em) {
             return Err(Refusal::EmOutsideLimits);
         }
         let glyphs = Rising::new(glyphs).ok_or(Refusal::NotRising)?;

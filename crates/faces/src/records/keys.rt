@@ -13,7 +13,7 @@ impl Keyed for GlyphRecord {
         self.glyph as u32
     }
 
-    // The edges are not crossed; without a box they are not looked at.
+    // The edges are not crossed, the test of `Bounds::new` without making a box; without a box they are not looked at.
     fn is_sound(&self) -> bool {
         !self.has_box || self.left <= self.right && self.bottom <= self.top
     }

@@ -52,6 +52,7 @@ pub fn tell<F: Face>(face: &F) -> Result<Story, Refusal>
         direction: Direction::RightToLeft,
         ..Settings::default()
     };
+    // Taken apart: the borrow checker refuses a field that is read while another one of the struct is lent.
     let Lists {
         signs,
         mapped,

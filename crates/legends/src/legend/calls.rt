@@ -5,15 +5,15 @@ ghost use Rattle.legends.specs.Leaves.{InStep, after_make, after_put, after_turn
 ghost use Rattle.legends.specs.Lent.{Made, SameLists, state_of, three_lists};
 
 use crate::legend::Legend;
-use crate::lists::Lists;
-use crate::lists::parts::{copy_part, fitting};
+use crate::lists::parts::copy_part;
+use crate::lists::{Lists, View};
 use crate::refusal::Refusal;
 use crate::span::span;
 use faces::Face;
 use placement::{Position, Settings, lines_stand, route_line};
 use signs::SignRow;
 
-// What a sign is until one is put in its place: a space.
+// What a sign is until one is put in its place: a space. Zeros are written out, as a constant can call no `default`.
 const BLANK: SignRow = SignRow {
     code: 32,
     unicode_props: 4637,
@@ -85,7 +85,12 @@ impl Legend {
         ensures answer { result ≡ turn_answer (state self.old signs.now mapped.old positions.old) }
         ensures lists { state self.new signs.now mapped.new positions.new ≡ left_if (is_ok result) (after_turn (F.meaning face.now) settings) (state self.old signs.now mapped.old positions.old) }
     {
-        if !fitting(self.len, signs.len(), mapped.len(), positions.len()) {
+        let view = View {
+            signs,
+            mapped,
+            positions,
+        };
+        if !view.fit(self.len) {
             return Err(Refusal::Length);
         }
         mapped.copy_from_slice(signs);

@@ -8,14 +8,6 @@ use crate::lists::{Lists, View};
 use placement::MOST_SIGNS;
 use signs::SignRow;
 
-// Whether a legend of len signs may be worked on with lists of these lengths.
-pub(crate) fn fitting(len: usize, signs: usize, mapped: usize, positions: usize) -> bool
-    ensures value { result ≡ fit len signs mapped positions }
-    ensures lengths { result ≡ true → Fit len signs mapped positions }
-{
-    len <= MOST_SIGNS && signs == len && mapped == len && positions == len
-}
-
 impl Lists<'_> {
     pub fn view(&self) -> View<'_>
         ensures signs { result.signs.now ≡ self.now.signs.now }
@@ -34,12 +26,7 @@ impl Lists<'_> {
         ensures value { result ≡ fits_lists len self.now }
         ensures lengths { result ≡ true → FitsLists len self.now }
     {
-        fitting(
-            len,
-            self.signs.len(),
-            self.mapped.len(),
-            self.positions.len(),
-        )
+        self.view().fit(len)
     }
 }
 
@@ -49,12 +36,10 @@ impl View<'_> {
         ensures value { result ≡ fit len (length self.now.signs.now) (length self.now.mapped.now) (length self.now.positions.now) }
         ensures lengths { result ≡ true → Fit len (length self.now.signs.now) (length self.now.mapped.now) (length self.now.positions.now) }
     {
-        fitting(
-            len,
-            self.signs.len(),
-            self.mapped.len(),
-            self.positions.len(),
-        )
+        len <= MOST_SIGNS
+            && self.signs.len() == len
+            && self.mapped.len() == len
+            && self.positions.len() == len
     }
 }
 

@@ -10,7 +10,7 @@ use crate::row::SignRow;
 use crate::sign::Sign;
 
 impl Sign {
-    // The sign with these numbers; refused where the code is no code point or the properties are those of no sign.
+    // The sign with these numbers, as callers have them before there is a row; refused where the code is no code point or the properties are those of no sign.
     pub fn new(
         code: u32,
         unicode_props: u16,

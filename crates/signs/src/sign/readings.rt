@@ -7,6 +7,7 @@ use crate::props::{category_of, class_of, is_mark_of};
 use crate::sign::Sign;
 
 impl Sign {
+    // The number that the row has: of thirty names four would be used.
     pub fn category(self) -> u8
         ensures { result ≡ category (row_of self) }
     {
@@ -66,14 +67,14 @@ impl Sign {
         self.row.lig_props / 0x10 % 2 == 1
     }
 
-    // The ligature that the sign belongs to; 0 for none.
+    // The ligature that the sign belongs to; 0 for none, as the row has it.
     pub fn lig_id(self) -> u8
         ensures { result ≡ lig_id (row_of self) }
     {
         self.row.lig_props >> 5
     }
 
-    // The ligature component that a mark stands on; 0 for none.
+    // The ligature component that a mark stands on; 0 for none, as the row has it.
     pub fn lig_comp(self) -> u8
         ensures { result ≡ lig_comp (row_of self) }
     {

@@ -6,8 +6,8 @@ use Rattle.drawings.specs.Pens.{nowhere, Near}
 use Rattle.drawings.proofs.Sums.{near_most}
 use Rattle.drawings.proofs.drawing.set_pens.Goals as goal
 
-pub move_pen-pen-requires : goal.move_pen-pen-requires
-move_pen-pen-requires c =
+pub after-pen-requires : goal.after-pen-requires
+after-pen-requires c =
     let ps = c.args.positions.now in
     let l = c.loop-k in
     let m = length-take-le (length ps) c.args.pens.now (omega arith) in

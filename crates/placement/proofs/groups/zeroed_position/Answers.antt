@@ -1,7 +1,7 @@
-use Rattle.std.proofs.Common.{◌∙◌, arith, rules}
+use Rattle.std.proofs.Common.{arith, rules}
 use Rattle.std.proofs.lemmas.Int.{ints}
 use Rattle.placement.specs.Placements.{less}
-use Rattle.placement.proofs.Computed.{again_both, again_same}
+use Rattle.placement.proofs.Computed.{again_called}
 use Rattle.placement.proofs.Fields.{same_at}
 use Rattle.placement.proofs.groups.zeroed_position.Goals as goal
 
@@ -11,5 +11,5 @@ returns c =
     let light = c.requires in
     let zero = c.default.ensures in
     same_at (omega (arith, ints)) (omega (arith, ints))
-    (again_same c.less.result (search rules) ∙ c.less.ensures ∙ again_both (less c.args.adjust) p.x_offset p.x_advance (omega (arith, ints)) (omega (arith, ints)))
-    (again_same c.less-2.result (search rules) ∙ c.less-2.ensures ∙ again_both (less c.args.adjust) p.y_offset p.y_advance (omega (arith, ints)) (omega (arith, ints)))
+    (again_called (less c.args.adjust) p.x_offset p.x_advance c.less.ensures (search rules) (omega (arith, ints)) (omega (arith, ints)))
+    (again_called (less c.args.adjust) p.y_offset p.y_advance c.less-2.ensures (search rules) (omega (arith, ints)) (omega (arith, ints)))

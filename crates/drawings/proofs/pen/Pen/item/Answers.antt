@@ -1,6 +1,6 @@
 use Rattle.drawings.proofs.Fields.{same_item}
 use Rattle.drawings.proofs.Sums.{sum}
-use Rattle.drawings.proofs.drawing.item.Goals as goal
+use Rattle.drawings.proofs.pen.Pen.item.Goals as goal
 
 pub returns : goal.returns
 returns c =

@@ -1,6 +1,6 @@
 use Rattle.drawings.proofs.Fields.{same_pen}
 use Rattle.drawings.proofs.Sums.{sum, wider}
-use Rattle.drawings.proofs.drawing.move_pen.Goals as goal
+use Rattle.drawings.proofs.pen.Pen.after.Goals as goal
 
 pub returns : goal.returns
 returns c =
