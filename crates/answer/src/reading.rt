@@ -11,6 +11,7 @@ fn is_set(field: &str) -> anyhow::Result<bool> {
     Ok(field.parse::<i64>()? != 0)
 }
 
+// One message of this program for any number that stands for none.
 fn direction(field: &str) -> anyhow::Result<Direction> {
     let number = field.parse::<i64>()?;
     u8::try_from(number)

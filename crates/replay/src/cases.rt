@@ -38,6 +38,7 @@ fn edges(left: i32, bottom: i32, right: i32, top: i32) -> anyhow::Result<[i16; 4
     ])
 }
 
+// One message of this program for any number that stands for none.
 fn direction(number: i32) -> anyhow::Result<Direction> {
     u8::try_from(number)
         .ok()
