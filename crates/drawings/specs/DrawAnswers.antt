@@ -27,7 +27,9 @@ abbrev pub PensAfter : Bool → List Pen → List Pen → Type 0
 PensAfter true before after = length after ≡ length before
 PensAfter false before after = after ≡ before
 
--- A drawing writes in the lists that it is lent, and lends no others in their place.
+-- A drawing writes in the lists that it is lent, and lends no others in their place; made or refused, each stays as long as it was.
 pub record SameRoom (before after : Room) : Type 0 where
   pub items : after.items.ghost_name ≡ before.items.ghost_name
   pub pens : after.pens.ghost_name ≡ before.pens.ghost_name
+  pub as_many_items : length after.items.now ≡ length before.items.now
+  pub as_many_pens : length after.pens.now ≡ length before.pens.now

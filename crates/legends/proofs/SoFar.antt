@@ -1,5 +1,5 @@
 -- What holds of a legend, its lists and the room to draw in after some calls, all of them carried out on what was lent at first.
-use Rattle.std.proofs.Common.{◌≡◌, ℕ, List, length, drop}
+use Rattle.std.proofs.Common.{◌≡◌, ℕ, List, drop}
 use Rattle.faces.specs.Meaning.{FaceMeaning}
 use Rattle.drawings.specs.declared.Room.{Room}
 use Rattle.drawings.specs.DrawAnswers.{SameRoom}
@@ -13,7 +13,5 @@ pub record SoFar (f : FaceMeaning) (n : ℕ) (calls : List Call) (legend : Legen
   pub left : state_of legend lists ≡ left_by f n calls
   -- entries past the signs stand as they did
   pub past : drop n room.items.now ≡ drop n given.items.now
-  pub items : length room.items.now ≡ length given.items.now
-  pub pens : length room.pens.now ≡ length given.pens.now
   pub same : SameLists first lists
   pub same_room : SameRoom given room

@@ -22,11 +22,14 @@ abbrev pub Made : Result Legend Refusal → Lists → State → Type 0
 Made (Ok legend) l st = state_of legend l ≡ st
 Made (Err e) l st = Unit {0}
 
--- A call writes in the lists that it is lent, and lends no others in their place.
+-- A call writes in the lists that it is lent, and lends no others in their place; accepted or refused, each stays as long as it was.
 pub record SameLists (before after : Lists) : Type 0 where
   pub signs : after.signs.ghost_name ≡ before.signs.ghost_name
   pub mapped : after.mapped.ghost_name ≡ before.mapped.ghost_name
   pub positions : after.positions.ghost_name ≡ before.positions.ghost_name
+  pub as_many_signs : length after.signs.now ≡ length before.signs.now
+  pub as_many_mapped : length after.mapped.now ≡ length before.mapped.now
+  pub as_many_positions : length after.positions.now ≡ length before.positions.now
 
 -- Whether they fit a legend of n signs.
 abbrev pub fits_lists : ℕ → Lists → Bool

@@ -1,5 +1,5 @@
 // What a line may hold.
-ghost use Rattle.std.specs.Prelude.{◌≡◌};
+ghost use Rattle.std.specs.Prelude.{◌≡◌, ◌^◌, ◌<◌};
 ghost use Rattle.std.specs.List.{list_all};
 ghost use Rattle.placement.specs.Bounded.{bounded, bounded_position, bounded_row, inside};
 
@@ -13,19 +13,22 @@ const MOST_ADVANCE: u32 = 65535;
 const MOST_OFFSET: u32 = 40000000;
 
 // Whether a value is at most so many units either way.
-fn inside(most: u32, value: i32) -> bool
-    ensures { result ≡ inside most value }
+fn inside<const MOST: u32>(value: i32) -> bool
+    requires { MOST < 2 ^ 31 }
+    ensures { result ≡ inside MOST value }
 {
-    value.unsigned_abs() <= most
+    let most = MOST as i32;
+    -most <= value && value <= most
 }
 
+// `&` and a constant for the limit: with no branch between them the four tests become one step of the processor.
 fn is_bounded(position: Position) -> bool
     ensures { result ≡ bounded_position position }
 {
-    inside(MOST_ADVANCE, position.x_advance)
-        && inside(MOST_ADVANCE, position.y_advance)
-        && inside(MOST_OFFSET, position.x_offset)
-        && inside(MOST_OFFSET, position.y_offset)
+    inside::<MOST_ADVANCE>(position.x_advance)
+        & inside::<MOST_ADVANCE>(position.y_advance)
+        & inside::<MOST_OFFSET>(position.x_offset)
+        & inside::<MOST_OFFSET>(position.y_offset)
 }
 
 fn rows_bounded(rows: &[SignRow]) -> bool

@@ -46,7 +46,11 @@ impl<F: Face> Layout<'_, F> {
             }
             Space::FourEighteenths => Some(sized(horizontal, em * 4 / 18)),
             Space::Digit => self.first_advance(48..58),
-            Space::Stop => self.first_advance(46..47).or(self.first_advance(44..45)),
+            // By hand: `or` looks the comma up at every stop, and the contract that the check infers for a closure of `or_else` is empty here.
+            Space::Stop => match self.first_advance(46..47) {
+                Some(advance) => Some(advance),
+                None => self.first_advance(44..45),
+            },
             Space::Half => Some(position.advance(horizontal) / 2),
             Space::Own => None,
         }

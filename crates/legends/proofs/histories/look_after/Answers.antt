@@ -20,6 +20,8 @@ obey-requires g c =
     let done = take l.call-index c.args.calls.now in
     let fits = c.if-not-fit.ensures.lengths refl in
     let enough = c.if-not-holds.ensures.lengths refl in
+    let items = l.invariant.same_room.as_many_items in
+    let pens = l.invariant.same_room.as_many_pens in
     let same : l.legend.len ≡ n = as_many stand f n done l.legend lent.signs.now lent.mapped.now lent.positions.now l.invariant.left in
     record {
       fit = fitted stand f n done l.legend lent.signs.now lent.mapped.now lent.positions.now l.invariant.left fits.most;
@@ -32,10 +34,8 @@ loop-call-init g c =
     record {
       left = c.in_ok-legend.ensures.made;
       past = refl;
-      items = refl;
-      pens = refl;
-      same = record { signs = refl; mapped = refl; positions = refl };
-      same_room = record { items = refl; pens = refl };
+      same = record { signs = refl; mapped = refl; positions = refl; as_many_signs = refl; as_many_mapped = refl; as_many_positions = refl };
+      same_room = record { items = refl; pens = refl; as_many_items = refl; as_many_pens = refl };
     }
 
 pub loop-call-preserved : goal.loop-call-preserved
@@ -58,10 +58,20 @@ loop-call-preserved g c =
     record {
       left = left_more f n calls i (Put 0 0 no_row) (state_of l.legend lent) next h so_far.left c.obey.ensures.lists;
       past = past_stays stand.drawings l.legend lent.signs.now lent.mapped.now lent.positions.now l.room.items.now n same fit call (is_ok c.obey.result) c.obey.new.items c.obey.ensures.items ∙ so_far.past;
-      items = c.obey.auto.items ∙ so_far.items;
-      pens = c.obey.auto.pens ∙ so_far.pens;
-      same = record { signs = so_far.same.signs; mapped = so_far.same.mapped; positions = so_far.same.positions };
-      same_room = record { items = so_far.same_room.items; pens = so_far.same_room.pens };
+      same = record {
+        signs = so_far.same.signs;
+        mapped = so_far.same.mapped;
+        positions = so_far.same.positions;
+        as_many_signs = c.obey.auto.signs ∙ so_far.same.as_many_signs;
+        as_many_mapped = c.obey.auto.mapped ∙ so_far.same.as_many_mapped;
+        as_many_positions = c.obey.auto.positions ∙ so_far.same.as_many_positions;
+      };
+      same_room = record {
+        items = so_far.same_room.items;
+        pens = so_far.same_room.pens;
+        as_many_items = c.obey.auto.items ∙ so_far.same_room.as_many_items;
+        as_many_pens = c.obey.auto.pens ∙ so_far.same_room.as_many_pens;
+      };
     }
 
 pub returns-in_err-draw : goal.returns-in_err-draw
@@ -74,6 +84,8 @@ returns-in_err-draw g c =
     let lent = l.lists in
     let fits = c.if-not-fit.ensures.lengths refl in
     let enough = c.if-not-holds.ensures.lengths refl in
+    let items = l.invariant.same_room.as_many_items in
+    let pens = l.invariant.same_room.as_many_pens in
     let left = left_all f n calls l.call-index (state_of l.legend lent) (omega arith) l.invariant.left in
     let same : l.legend.len ≡ n = as_many stand f n calls l.legend lent.signs.now lent.mapped.now lent.positions.now left in
     let ok = draw_ok n (length l.room.items.now) (length l.room.pens.now) (omega arith) (omega arith) (omega arith) in
@@ -106,14 +118,28 @@ returns g c =
     let first = c.in_ok-legend.ensures.same in
     let last = l.invariant.same in
     let roomed = l.invariant.same_room in
+    let as_many_items = roomed.as_many_items in
+    let as_many_pens = roomed.as_many_pens in
     record {
       answer =
           ap Ok (ap (λ (q : State). q.legend) (left ∙ stand.in_step f n calls))
           ∙ sym (look_ok n calls (length mine.signs.now) (length mine.mapped.now) (length mine.positions.now) (length items) (length c.args.room.now.pens.now) fits (omega arith) (omega arith));
       lists = ap lists_of left;
-      same = record { signs = last.signs ∙ first.signs; mapped = last.mapped ∙ first.mapped; positions = last.positions ∙ first.positions };
+      same = record {
+        signs = last.signs ∙ first.signs;
+        mapped = last.mapped ∙ first.mapped;
+        positions = last.positions ∙ first.positions;
+        as_many_signs = last.as_many_signs ∙ first.as_many_signs;
+        as_many_mapped = last.as_many_mapped ∙ first.as_many_mapped;
+        as_many_positions = last.as_many_positions ∙ first.as_many_positions;
+      };
       items = drawn_past stand f n calls l.legend view.signs.now view.mapped.now view.positions.now seen of_seen l.room.items.now items c.draw.new.room.items.now made.items l.invariant.past;
       pens = omega arith;
-      same_room = record { items = made.same.items ∙ roomed.items; pens = made.same.pens ∙ roomed.pens };
+      same_room = record {
+        items = made.same.items ∙ roomed.items;
+        pens = made.same.pens ∙ roomed.pens;
+        as_many_items = made.same.as_many_items ∙ roomed.as_many_items;
+        as_many_pens = made.same.as_many_pens ∙ roomed.as_many_pens;
+      };
       look = λ _. made.look f (g.F.Face.keeps c.args.face.now) n calls seen refl;
     }

@@ -1,4 +1,4 @@
-use Rattle.std.proofs.Common.{sym, ap, ◌∙◌}
+use Rattle.std.proofs.Common.{sym, ap, ◌∙◌, rules}
 use Rattle.std.proofs.lemmas.Bool.{ne_eqb}
 use Rattle.faces.specs.Boxes.{edges_of}
 use Rattle.placement.specs.Placing.{placed}
@@ -15,5 +15,5 @@ returns g c =
     (sym c.in_ok-run.ensures.value)
     (sym c.in_ok-mark.ensures)
     (ne_eqb _ _ c.if-class-eq0.false)
-    (c.place.ensures ∙ ap (λ n. placed run m n a.class a.direction) c.of.ensures) in
+    (c.place.ensures ∙ ap (λ n. placed run m n a.class a.direction) (search rules)) in
     record { value = e; kept = one_kept f a.base a.mark a.class a.direction _ e }

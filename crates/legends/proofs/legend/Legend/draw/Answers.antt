@@ -28,7 +28,7 @@ returns-then-not-fit c =
       answer = answer;
       items = refl;
       pens = refl;
-      same = record { items = refl; pens = refl };
+      same = record { items = refl; pens = refl; as_many_items = refl; as_many_pens = refl };
       decided = λ f keeps n calls left. decided c.histories_stand.ensures f n calls l signs mapped positions left keeps room pens (Err Length) answer;
       look = λ f keeps n calls left ok. never ok;
     }
