@@ -56,6 +56,21 @@ fn signs(rt: HostRuntime) {
     assert_eq!(rt; sign_number(65, 0xFF09), 0);
 }
 
+// No clause says a sign's text, which is that of its four numbers, whatever holds them.
+#[test]
+fn text_of_a_sign(rt: HostRuntime) -> Result<(), Fail> {
+    let sign = Sign::read(SignRow {
+        code: 65,
+        unicode_props: 9,
+        glyph_props: 4,
+        lig_props: 33,
+    });
+    let text = format!(in rt.alloc(); "{sign:?}").map_err(|_| Fail::new("no room for the text"))?;
+    let numbers = "Sign { code: 65, unicode_props: 9, glyph_props: 4, lig_props: 33 }";
+    assert_eq!(rt; text.as_str(), numbers);
+    Ok(())
+}
+
 #[test]
 fn lengths(rt: HostRuntime) -> Result<(), Fail> {
     assert!(rt; Written::new(256, Settings::default()).is_ok());
